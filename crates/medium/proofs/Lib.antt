@@ -1,0 +1,10 @@
+pub mod Runs
+pub mod Outcome
+pub mod Bytes
+pub mod Padding
+pub mod Erased
+pub mod Frame
+pub mod Split
+pub mod Places
+pub mod Checks
+pub mod Stores

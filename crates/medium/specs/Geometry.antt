@@ -1,0 +1,33 @@
+-- "Block size is 64 to 65,536, a multiple of 4. The block count is at least 1; size times count is at most 16,777,216 (else 6) and equals
+-- the image length (else 7). The size width s and count width c are given, 1 to 3 each, with block size at most 256^s and block count at
+-- most 256^c."
+use Prim.Native.Nat.{ℕ, _+_, _*_, _%_, _^_}
+use mathlib.Core.Bool.{Bool, _&&_}
+use lib.Dec.{leb, eqb}
+use Rattle.medium.specs.declared.geometry.Geometry.{Geometry}
+use Rattle.medium.specs.Granularity.{pick}
+
+-- 256^w for a width that is allowed, and 0 for any other
+abbrev pub limitOf : ℕ → ℕ
+limitOf w = pick (leb 1 w && leb w 3) (256 ^ w) 0
+
+unfoldable pub geometryOk : Geometry → Bool
+geometryOk g =
+    leb 64 (g .size) && leb (g .size) 65536 && eqb (g .size % 4) 0 && leb (g .size) (limitOf (g .s)) && leb 1 (g .count)
+    && leb (g .count) (limitOf (g .c))
+    && leb (g .size * g .count) 16777216
+
+-- 6 for the geometry, 7 for the room, else what comes next
+unfoldable pub admit : Geometry → ℕ → ℕ → ℕ
+admit g room next = pick (geometryOk g) (pick (eqb (g .size * g .count) room) next 7) 6
+
+abbrev pub checkOf : Geometry → ℕ → ℕ
+checkOf g room = admit g room 0
+
+-- a call with no image can give 6 but not 7
+unfoldable pub fitOf : Geometry → ℕ
+fitOf g = pick (geometryOk g) 0 6
+
+-- where a place of a block stands in the image
+abbrev pub address : Geometry → ℕ → ℕ → ℕ
+address g b o = b * g .size + o

@@ -1,0 +1,7 @@
+pub mod Granularity
+pub mod Geometry
+pub mod Fuse
+pub mod Units
+pub mod Operation
+pub mod Medium
+pub mod Rows
