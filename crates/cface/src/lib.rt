@@ -1,0 +1,8 @@
+// The C interface: what a C or Rust program calls. include/stumpchoir.h has the same functions for people.
+//
+// A geometry comes in as five numbers, a fuse as a flag and a count of units. Every function answers one of 01's numbers, and none
+// has a condition that its caller must keep. A refused call leaves every out value as it was.
+//
+// Always true: 6 comes first, also for a granularity byte that names none; without a fuse the units are neither read nor written.
+mod crossing;
+mod medium_calls;
