@@ -1,0 +1,84 @@
+//! `compare`: cases by layer on all sides, with a table of answers at the end.
+
+use std::{fs, time::Instant};
+
+use harness::{
+    case::Case,
+    cases::{exhaustive, Source},
+    compare::{judge, plant, Judged},
+    op::Layer,
+    shrink::shrink,
+    table::Tally,
+};
+
+use crate::options::{tell_sides, Options};
+
+pub fn run(o: &Options) -> Result<(), String> {
+    tell_sides(&o.layers);
+    let mut tally = Tally::default();
+    for &layer in &o.layers {
+        run_layer(o, layer, &mut tally)?;
+    }
+    let report = format!("{}\n{}", tally.markdown(), tally.scope());
+    println!("\n{report}");
+    if let Some(file) = &o.table {
+        fs::write(file, report).map_err(|e| format!("{file}: {e}"))?;
+    }
+    Ok(())
+}
+
+fn run_layer(o: &Options, layer: Layer, tally: &mut Tally) -> Result<(), String> {
+    let start = Instant::now();
+    let before = tally.cases;
+    let wanted = o.cases.unwrap_or(200_000);
+    let mut failed = None;
+    if !o.random_only {
+        exhaustive::all(layer, &mut |case| {
+            failed = step(o, &case, tally).err();
+            progress(layer, "counted through", tally.cases - before, &start);
+            failed.is_none()
+        });
+    }
+    failed.map_or(Ok(()), Err)?;
+    let counted = tally.cases - before;
+    for case in Source::new(layer, o.seed).take(wanted as usize) {
+        step(o, &case, tally)?;
+        progress(layer, "in all", tally.cases - before, &start);
+    }
+    let seconds = start.elapsed().as_secs_f64();
+    let rate = (tally.cases - before) as f64 / seconds;
+    let name = layer.name();
+    println!(
+        "{name}: {counted} counted through, {wanted} random (seed {}), {seconds:.1} s, {rate:.0} a second",
+        o.seed
+    );
+    Ok(())
+}
+
+fn progress(layer: Layer, what: &str, cases: u64, start: &Instant) {
+    if cases % 100_000 == 0 {
+        eprintln!("{}: {cases} {what}, {:.0} s", layer.name(), start.elapsed().as_secs_f64());
+    }
+}
+
+fn judged(o: &Options, case: &Case) -> Judged {
+    let mut judged = judge(case);
+    if o.plant {
+        plant(case, &mut judged);
+    }
+    judged
+}
+
+/// Judges one case; on a difference, the report of the smallest case.
+fn step(o: &Options, case: &Case, tally: &mut Tally) -> Result<(), String> {
+    let first = judged(o, case);
+    tally.count(case, &first);
+    if first.difference(case).is_none() {
+        return Ok(());
+    }
+    eprintln!("a difference; making it smaller");
+    let smallest = shrink(case, &|smaller| judged(o, smaller).difference(smaller).is_some());
+    let last = judged(o, &smallest);
+    let what = last.difference(&smallest).unwrap_or_default();
+    Err(format!("DIFFERS: {what}\nharness replay '{}'\n{}", smallest.line(), last.show(&smallest)))
+}

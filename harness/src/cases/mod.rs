@@ -1,0 +1,83 @@
+//! Where cases come from: small ones counted through, and random ones at every boundary over built and damaged images.
+
+mod blocks;
+mod collector;
+pub mod exhaustive;
+pub mod images;
+mod medium;
+mod numbers;
+mod objects;
+mod spoil;
+mod values;
+
+use std::collections::VecDeque;
+
+use crate::{case::Case, model, op::Layer, random::Random};
+
+/// An endless row of random cases of one layer.
+pub struct Source {
+    random: Random,
+    layer: Layer,
+    waiting: VecDeque<Case>,
+}
+
+/// No more units than this are counted through one by one.
+const SWEEP: u32 = 96;
+
+impl Source {
+    pub fn new(layer: Layer, seed: u64) -> Source {
+        Source { random: Random::new(seed ^ (layer as u64) << 56), layer, waiting: VecDeque::new() }
+    }
+
+    fn make(&mut self) -> Case {
+        let r = &mut self.random;
+        match self.layer {
+            Layer::Medium => medium::make(r),
+            Layer::Objects => objects::make(r),
+            Layer::Blocks => blocks::make(r),
+            Layer::Collector => collector::make(r),
+        }
+    }
+
+    /// Gives the case a fuse, or puts it in line once for every fuse from 0 to one past its last unit.
+    fn fuse(&mut self, mut case: Case) -> Case {
+        if !case.op.stores() || self.random.one_in(3) {
+            return case;
+        }
+        let units = units(&case);
+        if units <= SWEEP && self.random.one_in(16) {
+            self.waiting.extend((0..=units + 1).map(|fuse| Case { fuse: Some(fuse), ..case.clone() }));
+            return case;
+        }
+        let r = &mut self.random;
+        case.fuse = Some(match r.below(8) {
+            0 => 0,
+            1 => units,
+            2 => units.saturating_sub(1),
+            3 => units.saturating_sub(2),
+            4 => u32::MAX - r.below(2),
+            _ => r.between(0, units + 1),
+        });
+        case
+    }
+}
+
+impl Iterator for Source {
+    type Item = Case;
+
+    fn next(&mut self) -> Option<Case> {
+        if let Some(case) = self.waiting.pop_front() {
+            return Some(case);
+        }
+        let made = self.make();
+        let mut case = self.fuse(made);
+        spoil::spoil(&mut self.random, &mut case);
+        Some(case)
+    }
+}
+
+/// How many units the call takes with power.
+pub fn units(case: &Case) -> u32 {
+    let powered = Case { fuse: Some(u32::MAX), ..case.clone() };
+    u32::MAX - model::run(&powered).outcome.fuse.unwrap_or(u32::MAX)
+}

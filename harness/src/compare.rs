@@ -1,0 +1,89 @@
+//! Puts a case to the model, the text and the library, and compares what comes back.
+
+use crate::{
+    case::Case,
+    model, oracle,
+    outcome::{difference, Outcome},
+    rattle,
+};
+
+pub const RULE: &str = "erase count 4294967295 in the table, where the paper parts from the text";
+pub const RULE_ANSWER: &str = "erase count 4294967295 in the table: only the answer compared, with power";
+
+/// The three outcomes of one case.
+pub struct Judged {
+    pub model: Outcome,
+    /// none with the reason where the text cannot be asked
+    pub text: Result<Outcome, &'static str>,
+    pub library: Option<Outcome>,
+    /// how far the text is compared: everything, the answer, or not, with the reason
+    pub scope: Scope,
+}
+
+#[derive(Clone, Copy, PartialEq, Eq, Debug)]
+pub enum Scope {
+    Everything,
+    Answer(&'static str),
+    Nothing(&'static str),
+}
+
+pub fn judge(case: &Case) -> Judged {
+    let ran = model::run(case);
+    let text = oracle::run(case);
+    let scope = match (&text, ran.rule) {
+        (Err(reason), _) => Scope::Nothing(reason),
+        (Ok(_), false) => Scope::Everything,
+        (Ok(_), true) if case.fuse.is_none() => Scope::Answer(RULE_ANSWER),
+        (Ok(_), true) => Scope::Nothing(RULE),
+    };
+    Judged { model: ran.outcome, text, library: rattle::run(case), scope }
+}
+
+/// Plants a fault in the library's outcome, to show that the harness finds, shrinks and reports one: a stored byte of
+/// a write that is longer than five bytes comes out wrong.
+pub fn plant(case: &Case, judged: &mut Judged) {
+    let mut wrong = judged.model.clone();
+    if case.op.stores() && wrong.done() && case.bytes.len() > 5 {
+        if let Some(at) = (0..wrong.image.len()).find(|&i| wrong.image[i] != case.image[i]) {
+            wrong.image[at] ^= 1;
+        }
+    }
+    judged.library = Some(wrong);
+}
+
+impl Judged {
+    /// What differs, in words; none where all agree.
+    pub fn difference(&self, case: &Case) -> Option<String> {
+        if let Ok(text) = &self.text {
+            let differs = match self.scope {
+                Scope::Everything => difference(case, &self.model, text, true),
+                Scope::Answer(_) => (self.model.answer != text.answer).then_some("answer"),
+                Scope::Nothing(_) => None,
+            };
+            if let Some(what) = differs {
+                return Some(format!("the model and the text differ in the {what}"));
+            }
+        }
+        let library = self.library.as_ref()?;
+        if let (Ok(text), Scope::Everything) = (&self.text, self.scope) {
+            if let Some(what) = difference(case, library, text, true) {
+                return Some(format!("the library and the text differ in the {what}"));
+            }
+        }
+        difference(case, &self.model, library, false)
+            .map(|what| format!("the library and the model differ in the {what}"))
+    }
+
+    /// The three outcomes for people.
+    pub fn show(&self, case: &Case) -> String {
+        let text = match &self.text {
+            Ok(outcome) => outcome.show(case),
+            Err(reason) => format!("not asked: {reason}"),
+        };
+        let library = match &self.library {
+            Some(outcome) => outcome.show(case),
+            None => "not linked (feature of this layer is off)".to_string(),
+        };
+        format!("  model: {}\n  text: {text}\n  library: {library}", self.model.show(case))
+    }
+}

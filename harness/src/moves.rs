@@ -1,0 +1,132 @@
+//! Moves at every fuse, and the promise about cuts checked on the text's and the library's own results: before the
+//! copy's finish mark only the original reads as finished, whole; between the marks both, equal; after the delete mark
+//! only the copy; no byte changes outside the destination's span and the original's state mark.
+
+use crate::{
+    answer::DONE,
+    case::Case,
+    cases::{images, units},
+    compare::judge,
+    geometry::Geometry,
+    model::{header::Header, header::DELETED, header::FINALIZED, layout, Flash},
+    op::Op,
+    outcome::Outcome,
+    random::Random,
+};
+
+/// What a run of moves has seen.
+#[derive(Default)]
+pub struct Seen {
+    pub moves: u64,
+    pub cases: u64,
+    /// before the finish mark, between the marks, after the delete mark
+    pub phases: [u64; 3],
+}
+
+/// A move of a finished object to an erased place, on an image made by real sequences, with power.
+pub fn make(r: &mut Random, g: Geometry) -> Option<Case> {
+    let flash = if r.one_in(3) { images::image(r, g) } else { images::good(r, g) };
+    let from = r.below(g.count);
+    let header = images::finished(r, &flash, from)?;
+    let to = r.below(g.count);
+    let at = *images::spots(&flash, to).last()?;
+    let span = layout::align(g, header.total(g));
+    let there = flash.read(to, at as u64, span).ok()?;
+    if there.iter().any(|&b| b != 0xFF) || overlap(g, header, to, at) {
+        return None;
+    }
+    let case = Case {
+        args: vec![to, at],
+        array: header.numbers().to_vec(),
+        image: flash.image,
+        ..Case::of(Op::MoveObject, g)
+    };
+    (crate::model::run(&case).outcome.answer == DONE).then_some(case)
+}
+
+/// Whether the spans of original and copy share a byte.
+fn overlap(g: Geometry, header: Header, to: u32, at: u32) -> bool {
+    let span = layout::align(g, header.total(g)) as u32;
+    to == header.block && at < header.offset + span && header.offset < at + span
+}
+
+/// One move at every fuse: compared as any case, then its phase checked on each side's own result.
+pub fn every_fuse(case: &Case, seen: &mut Seen) -> Result<(), String> {
+    let units = units(case);
+    seen.moves += 1;
+    for fuse in 0..=units + 1 {
+        let cut = Case { fuse: Some(fuse), ..case.clone() };
+        let judged = judge(&cut);
+        if let Some(what) = judged.difference(&cut) {
+            return Err(format!("{what}\n{}\n{}", cut.line(), judged.show(&cut)));
+        }
+        let phase = if fuse + 1 < units { 0 } else { (fuse + 2 - units).min(2) as usize };
+        seen.cases += 1;
+        seen.phases[phase] += 1;
+        let sides =
+            [("model", Some(&judged.model)), ("text", judged.text.as_ref().ok()), ("library", judged.library.as_ref())];
+        for (side, outcome) in sides {
+            if let Some(broken) = outcome.and_then(|outcome| broken(&cut, outcome, phase)) {
+                return Err(format!("{side}, fuse {fuse} of {units}: {broken}\n{}\n{}", cut.line(), judged.show(&cut)));
+            }
+        }
+    }
+    Ok(())
+}
+
+/// The sentence of the promise that this result breaks, if any.
+fn broken(cut: &Case, outcome: &Outcome, phase: usize) -> Option<&'static str> {
+    let original = Header::from_numbers(&cut.array);
+    let (to, at) = (cut.args[0], cut.args[1]);
+    let payload = finished_at(cut, &cut.image, original.block, original.offset);
+    let first = finished_at(cut, &outcome.image, original.block, original.offset);
+    let copy = finished_at(cut, &outcome.image, to, at);
+    let readings = match phase {
+        0 => {
+            (first == payload && copy.is_none()).then_some(()).ok_or("only the original should read as finished, whole")
+        }
+        1 => (first == payload && copy == payload).then_some(()).ok_or("both should read as finished, equal"),
+        _ => (first.is_none() && copy == payload).then_some(()).ok_or("only the copy should read as finished"),
+    };
+    if let Err(sentence) = readings {
+        return Some(sentence);
+    }
+    let flash = Flash::new(cut.geometry, outcome.image.clone(), None);
+    let deleted = flash.read_header(original.block, original.offset).is_ok_and(|header| header.state == DELETED);
+    if deleted != (phase == 2) {
+        return Some("the original's state should be Deleted just after the delete mark");
+    }
+    changed_elsewhere(cut, outcome).then_some("a byte changed outside the destination and the original's state mark")
+}
+
+/// Type and payload of a finished object, by the readers of the text and of the library where they are there; they
+/// must agree with the model's.
+fn finished_at(cut: &Case, image: &[u8], block: u32, offset: u32) -> Option<(u32, Vec<u8>)> {
+    let open = Case { args: vec![block, offset, 0], image: image.to_vec(), ..Case::of(Op::ReaderNew, cut.geometry) };
+    let opened = agreed(&open);
+    if opened.answer != DONE || opened.values[1] != FINALIZED as u64 {
+        return None;
+    }
+    let array: Vec<u32> = opened.values.iter().map(|&n| n as u32).collect();
+    let kind = array[0];
+    let read = Case { array, args: vec![], bytes: vec![0; cut.geometry.size as usize], op: Op::ReaderRead, ..open };
+    let got = agreed(&read);
+    (got.answer == DONE).then(|| (kind, got.bytes[..got.values[0] as usize].to_vec()))
+}
+
+/// The outcome of a reading that all sides give.
+fn agreed(case: &Case) -> Outcome {
+    let judged = judge(case);
+    assert_eq!(judged.difference(case), None, "{}", case.line());
+    judged.text.unwrap_or(judged.model)
+}
+
+fn changed_elsewhere(cut: &Case, outcome: &Outcome) -> bool {
+    let g = cut.geometry;
+    let original = Header::from_numbers(&cut.array);
+    let place = |block: u32, offset: u32| (block * g.size + offset) as usize;
+    let start = place(cut.args[0], cut.args[1]);
+    let span = start..start + layout::align(g, original.total(g)) as usize;
+    let mark = place(original.block, original.offset + layout::delete_mark(g).0 as u32);
+    (0..cut.image.len()).any(|i| cut.image[i] != outcome.image[i] && !span.contains(&i) && i != mark)
+}

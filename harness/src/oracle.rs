@@ -1,0 +1,32 @@
+//! Runs a case on the repository's text, where it can be put to it.
+
+use crate::{answer::BAD_GEOMETRY, answer::BAD_ROOM, case::Case, model::early, op::Op, outcome::Outcome};
+
+pub use text::SIZES;
+
+pub const SKIPPED: &str = "the repository's text was not at hand when this was built (see NORFS_SRC)";
+
+/// Whether the text is compiled in.
+pub fn present() -> bool {
+    text::PRESENT
+}
+
+/// The text's outcome, or why this case cannot be put to it.
+pub fn run(case: &Case) -> Result<Outcome, &'static str> {
+    if !present() {
+        return Err(SKIPPED);
+    }
+    match early::refuse(case) {
+        Ok(()) => {}
+        Err(BAD_GEOMETRY) => return Err("geometry refused (6), which the text has no rule for"),
+        Err(BAD_ROOM) => return Err("room refused (7), which the text has no rule for"),
+        Err(_) => return Err("impossible value or spent writer (4), which the text has no rule for"),
+    }
+    if case.op == Op::Check {
+        return Err("check has nothing of the text in it");
+    }
+    if case.op == Op::RecordAddUsedBytes && case.array[2] as u64 + case.args[0] as u64 + 3 > u32::MAX as u64 {
+        return Err("used bytes near 2^32, which the text counts in 64 bits");
+    }
+    text::run(case).ok_or("no instance of the text for this block size and count")
+}

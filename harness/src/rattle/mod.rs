@@ -1,0 +1,150 @@
+//! Runs a case on the Rattle library, through its C interface (include/stumpchoir.h).
+//!
+//! A layer is called where the feature of its name is on; the archive must have its functions then.
+
+#[cfg(feature = "blocks")]
+mod blocks;
+#[cfg(feature = "collector")]
+mod collector;
+#[cfg(feature = "medium")]
+mod medium;
+#[cfg(feature = "objects")]
+mod objects;
+
+use crate::{
+    case::Case,
+    op::{Layer, Out},
+    outcome::Outcome,
+};
+
+pub fn present(layer: Layer) -> bool {
+    match layer {
+        Layer::Medium => cfg!(feature = "medium"),
+        Layer::Objects => cfg!(feature = "objects"),
+        Layer::Blocks => cfg!(feature = "blocks"),
+        Layer::Collector => cfg!(feature = "collector"),
+    }
+}
+
+/// The library's outcome; none where its layer is not linked.
+pub fn run(case: &Case) -> Option<Outcome> {
+    if !present(case.op.signature().layer) {
+        return None;
+    }
+    let mut lent = Lent::of(case);
+    let answer = call(case, &mut lent)?;
+    Some(lent.outcome(case, answer))
+}
+
+#[allow(unused_variables)]
+fn call(case: &Case, lent: &mut Lent) -> Option<u8> {
+    match case.op.signature().layer {
+        #[cfg(feature = "medium")]
+        Layer::Medium => Some(medium::call(case, lent)),
+        #[cfg(feature = "objects")]
+        Layer::Objects => Some(objects::call(case, lent)),
+        #[cfg(feature = "blocks")]
+        Layer::Blocks => Some(blocks::call(case, lent)),
+        #[cfg(feature = "collector")]
+        Layer::Collector => Some(collector::call(case, lent)),
+        #[allow(unreachable_patterns)]
+        _ => None,
+    }
+}
+
+/// What stands in the unit count when there is no fuse: the library must leave it.
+const NO_UNITS: u32 = 0x5A5A_5A5A;
+
+/// Everything that a call is lent, in the forms that C takes.
+#[allow(dead_code)]
+pub(crate) struct Lent {
+    image: Vec<u8>,
+    fused: bool,
+    units: u32,
+    array: Vec<u32>,
+    bytes: Vec<u8>,
+    /// out values by width: bytes, u32s, u64s
+    b: [u8; 6],
+    w: [u32; 12],
+    q: u64,
+}
+
+impl Lent {
+    fn of(case: &Case) -> Lent {
+        Lent {
+            image: case.image.clone(),
+            fused: case.fuse.is_some(),
+            units: case.fuse.unwrap_or(NO_UNITS),
+            array: case.array.clone(),
+            bytes: case.bytes.clone(),
+            b: [Out::B.before() as u8; 6],
+            w: [Out::W.before() as u32; 12],
+            q: Out::Q.before(),
+        }
+    }
+
+    fn outcome(self, case: &Case, answer: u8) -> Outcome {
+        let fuse = match (self.fused, self.units) {
+            (true, units) => Some(units),
+            (false, NO_UNITS) => None,
+            (false, touched) => Some(touched),
+        };
+        let (mut b, mut w) = (self.b.iter(), self.w.iter());
+        let outs = case.op.signature().outs.iter();
+        let values = outs.map(|out| match out {
+            Out::B => *b.next().unwrap() as u64,
+            Out::W => *w.next().unwrap() as u64,
+            Out::Q => self.q,
+        });
+        Outcome {
+            answer,
+            values: values.collect(),
+            fuse,
+            image: self.image,
+            known: self.array.len(),
+            array: self.array,
+            bytes: self.bytes,
+        }
+    }
+}
+
+/// Calls a C function: the geometry first, then image or image with fuse where they are named, then the rest.
+#[allow(unused_macros)]
+macro_rules! c {
+    ($f:ident($case:ident $(, $rest:expr)*)) => {{
+        let g = $case.geometry;
+        unsafe { $f(g.granularity, g.s, g.c, g.size, g.count $(, $rest)*) }
+    }};
+    ($f:ident($case:ident; image $lent:ident $(, $rest:expr)*)) => {{
+        let (image, len) = ($lent.image.as_ptr(), $lent.image.len());
+        c!($f($case, image, len $(, $rest)*))
+    }};
+    ($f:ident($case:ident; store $lent:ident $(, $rest:expr)*)) => {{
+        let (image, len) = ($lent.image.as_mut_ptr(), $lent.image.len());
+        let (fused, units) = ($lent.fused, &raw mut $lent.units);
+        c!($f($case, image, len, fused, units $(, $rest)*))
+    }};
+}
+#[allow(unused_imports)]
+pub(crate) use c;
+
+/// Declares functions of the C interface: every one begins with the geometry and answers a number.
+#[allow(unused_macros)]
+macro_rules! interface {
+    ($($f:ident($($kind:ident)? $(; $($name:ident: $ty:ty),*)?);)*) => {
+        $(interface!(@ $($kind)? $f $($($name: $ty),*)?);)*
+    };
+    (@ image $f:ident $($name:ident: $ty:ty),*) => {
+        interface!(@ $f image: *const u8, image_len: usize $(, $name: $ty)*);
+    };
+    (@ store $f:ident $($name:ident: $ty:ty),*) => {
+        interface!(@ $f image: *mut u8, image_len: usize, fused: bool, units: *mut u32 $(, $name: $ty)*);
+    };
+    (@ $f:ident $($name:ident: $ty:ty),*) => {
+        unsafe extern "C" {
+            fn $f(granularity: u8, s: u8, c: u8, size: u32, count: u32 $(, $name: $ty)*) -> u8;
+        }
+    };
+}
+#[allow(unused_imports)]
+pub(crate) use interface;

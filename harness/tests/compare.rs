@@ -1,0 +1,79 @@
+//! Short runs of the comparison itself, and a planted fault that must be found, made small and reported.
+
+use std::process::Command;
+
+use harness::{
+    case::Case,
+    cases::{units, Source},
+    compare::{judge, plant, Scope},
+    op::{Op, LAYERS},
+    oracle,
+    shrink::shrink,
+    table::Tally,
+};
+
+#[test]
+fn random_cases_agree() {
+    let mut tally = Tally::default();
+    for layer in LAYERS {
+        for case in Source::new(layer, 11).take(20_000) {
+            let judged = judge(&case);
+            tally.count(&case, &judged);
+            assert_eq!(judged.difference(&case), None, "{}\n{}", case.line(), judged.show(&case));
+        }
+    }
+    for &op in harness::op::ALL {
+        assert!(tally.of(op)[0] > 50, "{} is hardly ever done", op.name());
+        assert!(tally.of(op)[6] > 5, "{} hardly ever meets 6", op.name());
+    }
+}
+
+/// A case with much that does not matter for the fault.
+fn large() -> Case {
+    let line = "g=4/3/2/256x4 f=90 write_to n=2,12,142 a=- b=0102030405060708090a0b0c i=ff*512.ba01c9ff.ff*4.aa.ff*180.03.ff*322";
+    Case::parse(line).unwrap()
+}
+
+#[test]
+fn a_planted_fault_is_made_small() {
+    let bad = |case: &Case| {
+        let mut judged = judge(case);
+        plant(case, &mut judged);
+        judged.difference(case).is_some()
+    };
+    let case = large();
+    assert!(bad(&case));
+    let small = shrink(&case, &bad);
+    assert!(bad(&small));
+    assert_eq!((small.geometry.size, small.geometry.count, small.geometry.s), (64, 1, 1));
+    assert_eq!((small.fuse, small.bytes.len()), (None, 6));
+    assert!(small.image.iter().all(|&b| b == 0xFF), "{}", small.line());
+}
+
+#[test]
+fn a_planted_fault_is_reported() {
+    let harness = env!("CARGO_BIN_EXE_harness");
+    let run =
+        Command::new(harness).args(["compare", "--layer", "medium", "--cases", "5000", "--plant"]).output().unwrap();
+    assert!(!run.status.success());
+    let said = String::from_utf8(run.stderr).unwrap();
+    assert!(said.contains("DIFFERS: the library and the"), "{said}");
+    let line = said.split_once("harness replay '").and_then(|(_, rest)| rest.split_once('\'')).unwrap().0;
+    let case = Case::parse(line).unwrap();
+    assert_eq!((case.op, case.bytes.len()), (Op::Write, 6));
+    let replay = Command::new(harness).args(["replay", line]).output().unwrap();
+    assert!(replay.status.success(), "without the planted fault all agree");
+}
+
+#[test]
+fn the_text_is_asked_where_it_can_be() {
+    let case = Case::parse("g=0/1/1/64x1 f=- write_to n=0,8,142 a=- b=414243 i=ff*64").unwrap();
+    assert_eq!(units(&case), 6);
+    let judged = judge(&case);
+    if oracle::present() {
+        assert_eq!(judged.scope, Scope::Everything);
+        assert_eq!(judged.text.unwrap().answer, 0);
+    } else {
+        assert_eq!(judged.scope, Scope::Nothing(oracle::SKIPPED));
+    }
+}

@@ -1,0 +1,35 @@
+//! Geometry: five numbers that are handed to every call, and the paper's rules for them.
+
+#[derive(Clone, Copy, PartialEq, Eq, Debug, Hash)]
+pub struct Geometry {
+    /// 0 Bit, 1 Word(1), 4 Word(4)
+    pub granularity: u8,
+    /// bytes of a size or an offset
+    pub s: u8,
+    /// bytes of a block number
+    pub c: u8,
+    /// bytes of a block
+    pub size: u32,
+    /// number of blocks
+    pub count: u32,
+}
+
+impl Geometry {
+    /// Whether every rule holds (else 6).
+    pub fn good(self) -> bool {
+        [0, 1, 4].contains(&self.granularity)
+            && (1..=3).contains(&self.s)
+            && (1..=3).contains(&self.c)
+            && (64..=65_536).contains(&self.size)
+            && self.size % 4 == 0
+            && self.count >= 1
+            && self.size as u64 * self.count as u64 <= 16_777_216
+            && self.size as u64 <= 1 << (8 * self.s)
+            && self.count as u64 <= 1 << (8 * self.c)
+    }
+
+    /// The length that an image must have.
+    pub fn room(self) -> usize {
+        self.size as usize * self.count as usize
+    }
+}

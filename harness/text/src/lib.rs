@@ -1,0 +1,71 @@
+//! The repository's text over a medium with the paper's rules, and the words in which a case is put to it.
+//!
+//! Reading order: `op` (the functions), `case` and `outcome` (what goes in and comes out), `standins` and `flash` (what
+//! the text is given), `instances` and the `call_` modules (how a case is run on it).
+
+#![allow(async_fn_in_trait)]
+
+/// The text writes `heapless08::Vec`; this name makes that `crate::Vec`, the stand-in.
+extern crate self as heapless08;
+pub use standins::{FixedVec as Vec, StorageError};
+
+// The text's modules: medium, ll::objects, ll::blocks, gc (build.rs writes this file).
+include!(concat!(env!("OUT_DIR"), "/norfs.rs"));
+
+pub mod answer;
+pub mod case;
+pub mod geometry;
+pub mod hexrun;
+pub mod op;
+pub mod outcome;
+pub mod sha256;
+pub mod standins;
+
+#[cfg(norfs_text)]
+mod call_blocks;
+#[cfg(norfs_text)]
+mod call_collector;
+#[cfg(norfs_text)]
+mod call_objects;
+#[cfg(norfs_text)]
+mod flash;
+#[cfg(norfs_text)]
+mod instances;
+#[cfg(norfs_text)]
+mod panics;
+#[cfg(norfs_text)]
+mod run;
+
+/// Whether the text is compiled in.
+pub const PRESENT: bool = cfg!(norfs_text);
+
+/// The text's outcome of a case that no early test refuses; none where there is no instance for its geometry.
+#[cfg(norfs_text)]
+pub fn run(case: &case::Case) -> Option<outcome::Outcome> {
+    instances::run(case)
+}
+
+#[cfg(not(norfs_text))]
+pub fn run(_: &case::Case) -> Option<outcome::Outcome> {
+    None
+}
+
+/// The pairs of block size and count that the text is compiled for.
+pub const SIZES: [(u32, u32); 16] = [
+    (64, 1),
+    (64, 2),
+    (64, 3),
+    (64, 4),
+    (68, 1),
+    (68, 3),
+    (128, 2),
+    (128, 4),
+    (256, 1),
+    (256, 4),
+    (260, 2),
+    (260, 3),
+    (1024, 1),
+    (1024, 2),
+    (65536, 1),
+    (65536, 2),
+];
