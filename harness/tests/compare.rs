@@ -1,6 +1,6 @@
 //! Short runs of the comparison itself, and a planted fault that must be found, made small and reported.
 
-use std::process::Command;
+use std::process::{Command, Output};
 
 use harness::{
     case::Case,
@@ -50,18 +50,27 @@ fn a_planted_fault_is_made_small() {
     assert!(small.image.iter().all(|&b| b == 0xFF), "{}", small.line());
 }
 
+/// Runs the program, by the runner that HARNESS_RUNNER names where this machine is of another kind.
+fn harness(words: &[&str]) -> Output {
+    let program = env!("CARGO_BIN_EXE_harness");
+    let runner = std::env::var("HARNESS_RUNNER").unwrap_or_default();
+    let mut command = if runner.is_empty() { Command::new(program) } else { Command::new(runner) };
+    if command.get_program() != program {
+        command.arg(program);
+    }
+    command.args(words).output().unwrap()
+}
+
 #[test]
 fn a_planted_fault_is_reported() {
-    let harness = env!("CARGO_BIN_EXE_harness");
-    let run =
-        Command::new(harness).args(["compare", "--layer", "medium", "--cases", "5000", "--plant"]).output().unwrap();
+    let run = harness(&["compare", "--layer", "medium", "--cases", "5000", "--plant"]);
     assert!(!run.status.success());
     let said = String::from_utf8(run.stderr).unwrap();
     assert!(said.contains("DIFFERS: the library and the"), "{said}");
     let line = said.split_once("harness replay '").and_then(|(_, rest)| rest.split_once('\'')).unwrap().0;
     let case = Case::parse(line).unwrap();
     assert_eq!((case.op, case.bytes.len()), (Op::Write, 6));
-    let replay = Command::new(harness).args(["replay", line]).output().unwrap();
+    let replay = harness(&["replay", line]);
     assert!(replay.status.success(), "without the planted fault all agree");
 }
 

@@ -5,6 +5,7 @@ use crate::{
     geometry::Geometry,
     model::{
         blocks::{DATA, EMPTY, METADATA, UNDEFINED, UNKNOWN},
+        collector::Collector,
         header::{self, Header, FINALIZED, TYPES},
         layout,
         listing::Listing,
@@ -31,8 +32,11 @@ pub fn good(r: &mut Random, g: Geometry) -> Flash {
     for block in 0..g.count {
         fill_block(r, &mut flash, block);
     }
-    if r.one_in(8) {
-        move_one(r, &mut flash);
+    match r.below(24) {
+        0..=2 => move_one(r, &mut flash),
+        3 => format_one(r, &mut flash),
+        4 | 5 => flash = collected(r, flash),
+        _ => {}
     }
     flash.fuse = None;
     flash
@@ -135,6 +139,22 @@ fn move_one(r: &mut Random, flash: &mut Flash) {
     flash.fuse = None;
 }
 
+/// Formats a block, often cut on the way.
+fn format_one(r: &mut Random, flash: &mut Flash) {
+    flash.fuse = (!r.one_in(3)).then(|| r.below(10));
+    let _ = flash.format_block(r.below(flash.geometry.count));
+}
+
+/// Collects by a fresh table, often cut on the way.
+fn collected(r: &mut Random, mut flash: Flash) -> Flash {
+    let scan = |block| flash.scan_block(block).map_or([EMPTY, 0, 0, 0], |record| record.numbers());
+    let table: Vec<u32> = (0..flash.geometry.count).flat_map(scan).collect();
+    flash.fuse = (!r.one_in(3)).then(|| r.below(20));
+    let mut collector = Collector::new(flash, &table);
+    let _ = collector.run();
+    collector.flash
+}
+
 /// A listed Finalized object of the block.
 pub fn finished(r: &mut Random, flash: &Flash, block: u32) -> Option<Header> {
     let headers = spots(flash, block).into_iter().filter_map(|at| flash.read_header(block, at).ok());
@@ -165,12 +185,14 @@ pub fn offset(r: &mut Random, flash: &Flash, block: u32) -> u32 {
     }
 }
 
-/// Where the next object would go: mostly.
+/// Where the next object would go, mostly; now and then where its header does not fit.
 pub fn end(r: &mut Random, flash: &Flash, block: u32) -> u32 {
-    if r.one_in(3) {
-        return offset(r, flash, block);
+    let g = flash.geometry;
+    match r.below(12) {
+        0..=3 => offset(r, flash, block),
+        4 => (g.size - r.below(layout::header_len(g) as u32 + 1)) / layout::width(g) as u32 * layout::width(g) as u32,
+        _ => *spots(flash, block.min(g.count - 1)).last().unwrap(),
     }
-    *spots(flash, block.min(flash.geometry.count - 1)).last().unwrap()
 }
 
 const BYTES: [u8; 20] =

@@ -73,8 +73,11 @@ pub fn writer(r: &mut Random, flash: &mut Flash) -> Writer {
     if r.one_in(10) {
         let _ = flash.writer_finalize(&mut w);
     }
-    if r.one_in(16) {
-        w.header.size = size(r, g);
+    match r.below(32) {
+        0 | 1 => w.header.size = size(r, g),
+        2 => w.header.offset = w.header.offset.wrapping_add(r.between(1, 3)),
+        3 => w.header.block = g.count,
+        _ => {}
     }
     w
 }

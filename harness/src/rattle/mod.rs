@@ -89,22 +89,36 @@ impl Lent {
             (false, NO_UNITS) => None,
             (false, touched) => Some(touched),
         };
-        let (mut b, mut w) = (self.b.iter(), self.w.iter());
-        let outs = case.op.signature().outs.iter();
-        let values = outs.map(|out| match out {
-            Out::B => *b.next().unwrap() as u64,
-            Out::W => *w.next().unwrap() as u64,
-            Out::Q => self.q,
-        });
+        let values = self.values(case);
         Outcome {
             answer,
-            values: values.collect(),
+            values,
             fuse,
             image: self.image,
             known: self.array.len(),
             array: self.array,
             bytes: self.bytes,
         }
+    }
+
+    /// The out values; one too many where the library has written to a place that is none of its outs.
+    fn values(&self, case: &Case) -> Vec<u64> {
+        let (mut b, mut w, mut q) = (self.b.iter(), self.w.iter(), [self.q].into_iter());
+        let outs = case.op.signature().outs.iter();
+        let mut values: Vec<u64> = outs
+            .map(|out| match out {
+                Out::B => *b.next().unwrap() as u64,
+                Out::W => *w.next().unwrap() as u64,
+                Out::Q => q.next().unwrap(),
+            })
+            .collect();
+        let stray = b.any(|&n| n as u64 != Out::B.before())
+            || w.any(|&n| n as u64 != Out::W.before())
+            || q.any(|n| n != Out::Q.before());
+        if stray {
+            values.push(u64::MAX);
+        }
+        values
     }
 }
 

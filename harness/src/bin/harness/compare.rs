@@ -13,6 +13,9 @@ use harness::{
 
 use crate::options::{tell_sides, Options};
 
+/// Random cases a layer, unless another number is given.
+const CASES: u64 = 200_000;
+
 pub fn run(o: &Options) -> Result<(), String> {
     tell_sides(&o.layers);
     let mut tally = Tally::default();
@@ -22,15 +25,24 @@ pub fn run(o: &Options) -> Result<(), String> {
     let report = format!("{}\n{}", tally.markdown(), tally.scope());
     println!("\n{report}");
     if let Some(file) = &o.table {
-        fs::write(file, report).map_err(|e| format!("{file}: {e}"))?;
+        fs::write(file, format!("{}\n{report}", title(o))).map_err(|e| format!("{file}: {e}"))?;
     }
     Ok(())
+}
+
+/// The head of a kept table: what made it.
+fn title(o: &Options) -> String {
+    let layer = if o.layers.len() == 1 { o.layers[0].name() } else { "all" };
+    let only = if o.random_only { " --random-only" } else { "" };
+    let command =
+        format!("harness compare --layer {layer} --cases {} --seed {}{only}", o.cases.unwrap_or(CASES), o.seed);
+    format!("# Answers by function and number\n\nMade by `{command}`; all sides agree on every case.\n")
 }
 
 fn run_layer(o: &Options, layer: Layer, tally: &mut Tally) -> Result<(), String> {
     let start = Instant::now();
     let before = tally.cases;
-    let wanted = o.cases.unwrap_or(200_000);
+    let wanted = o.cases.unwrap_or(CASES);
     let mut failed = None;
     if !o.random_only {
         exhaustive::all(layer, &mut |case| {

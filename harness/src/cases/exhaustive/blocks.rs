@@ -4,7 +4,7 @@ use super::{every_fuse, small, Visit, GRANULARITIES};
 use crate::{
     case::Case,
     geometry::Geometry,
-    model::{blocks, layout, Flash},
+    model::{layout, Flash},
     op::Op,
 };
 
@@ -90,5 +90,5 @@ fn records(g: Geometry, visit: Visit) -> bool {
                     && (0..=4).all(|n| visit(of(Op::RecordAddUsedBytes, vec![n])))
             })
         })
-    }) && (0..=5).all(|kind| blocks::type_byte(kind) != 1)
+    })
 }
