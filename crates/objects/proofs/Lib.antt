@@ -1,0 +1,5 @@
+pub mod Answers
+pub mod Numbers
+pub mod Places
+pub mod Reading
+pub mod Readers
