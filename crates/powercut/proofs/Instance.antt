@@ -1,0 +1,243 @@
+-- The demand is not empty: the objects of rows 1, 2 and 3, one of each granularity, moved to block 2, meet what is given. The first is row 11.
+use mathlib.Core.Path.{_≡_, refl, sym, ap, _∙_}
+use mathlib.Core.Logic.{inl}
+use mathlib.Core.Bool.{Bool, true, false, _&&_}
+use mathlib.Core.List.{List, [], _∷_, _++_}
+use Prim.Native.Nat.{ℕ, zero, suc, _+_, _-_, _≤_, _<_}
+use native.Mathlib.Omega.{arith}
+use lib.ListN.{length, getD, replicate, getD-replicate}
+use lib.Dec.{T, ltb, ltb→lt, lit<, lit≤}
+use lib.Pow.{areBytes}
+use Rattle.medium.specs.declared.granularity.Granularity.{Granularity}
+use Rattle.medium.specs.declared.granularity.Granularity.the-variants.{Bit, Word1, Word4}
+use Rattle.medium.specs.declared.geometry.Geometry.{Geometry}
+use Rattle.medium.specs.declared.fuse.Fuse.the-variants.{Absent, Units}
+use Rattle.medium.specs.Geometry.{geometryOk, admit}
+use Rattle.medium.specs.Operation.{_>>=_, ask, test, putting, run}
+use Rattle.medium.specs.Medium.{part, readable, writable, readAt, write}
+use Rattle.objects.specs.declared.types.ObjectType.the-variants.{FileData}
+use Rattle.objects.specs.declared.state.ObjectDataState.the-variants.{Valid}
+use Rattle.objects.specs.declared.state.CompositeObjectState.the-variants.{Allocated}
+use Rattle.objects.specs.declared.location.ObjectLocation.{ObjectLocation}
+use Rattle.objects.specs.declared.header.ObjectHeader.{ObjectHeader}
+use Rattle.objects.specs.Types.{typeOf, markOf, pairOf, marksOf, stateIn}
+use Rattle.objects.specs.Header.{stateAt, sizedAt, headerAt, payloadOf, allocatableOf, marking, setState, sizableOf, setPayloadSize}
+use Rattle.objects.specs.Info.{infoAt, totalOf}
+use Rattle.objects.specs.Reader.{readerAt, remainingOf, leftOf, readSome}
+use Rattle.objects.specs.Listing.{nextOf, listFrom, listing}
+use Rattle.writer.specs.Writer.{soundOf, allocate, appendable, putBytes, append, finishable, flush, close, finalize}
+use Rattle.writer.specs.Moving.{sourceAt, chunk, copying, copyObject, moveObject}
+use Rattle.powercut.specs.Demand.{payloadIn, Movable, unitsTo, Survives, Demand}
+use Rattle.powercut.specs.Listed.{payloadRead, isCopy, Listable, copiesBefore, copiesAfter, Counted, Listings}
+use Rattle.medium.proofs.Bytes.{getD-part}
+use Rattle.powercut.proofs.Survive.{demand}
+use Rattle.powercut.proofs.Listed.{listings}
+
+-- ---- tests that compute
+
+and-l : (a b : Bool) → T (a && b) → T a
+and-l true b h = tt
+and-l false b h = h
+
+and-r : (a b : Bool) → T (a && b) → T b
+and-r true b h = h
+and-r false b h = absurd h
+
+bytes-by : (img : List ℕ) → T (areBytes img) → (j : ℕ) → getD img j 0 < 256
+bytes-by [] h j = omega arith
+bytes-by (x ∷ xs) h zero = ltb→lt x 256 (and-l (ltb x 256) (areBytes xs) h)
+bytes-by (x ∷ xs) h (suc j) = bytes-by xs (and-r (ltb x 256) (areBytes xs) h) j
+
+blank-by : (a n : ℕ) (img : List ℕ) → part a n img ≡ replicate n 255 → (i : ℕ) → i < n → getD img (a + i) 0 ≡ 255
+blank-by a n img e i h = sym (getD-part a n img i 0 h) ∙ ap (λ (bs : List ℕ). getD bs i 0) e ∙ getD-replicate n i 255 0 h
+
+-- ---- A, C and B with the object of rows 1, 2 and 3
+
+abbrev geometry : Granularity → Geometry
+geometry k = record { granularity = k; s = 1; c = 1; size = 256; count = 4 }
+
+abbrev place : ℕ → ℕ → ObjectLocation
+place b o = record { block = b; offset = o }
+
+abbrev holding : ℕ → List ℕ → List ℕ
+holding at bs = replicate at 255 ++ bs ++ replicate (1024 - (at + length bs)) 255
+
+abbrev object : ℕ → ObjectHeader
+object at = record { state = Allocated FileData Valid; size = 3; location = place 0 at }
+
+abbrev imageA : List ℕ
+imageA = holding 8 (0x8E ∷ 0xF0 ∷ 0x03 ∷ 0x41 ∷ 0x42 ∷ 0x43 ∷ [])
+
+abbrev imageC : List ℕ
+imageC = holding 8 (0x8E ∷ 0x00 ∷ 0xFF ∷ 0x03 ∷ 0x41 ∷ 0x42 ∷ 0x43 ∷ [])
+
+abbrev imageB : List ℕ
+imageB = holding 12 (0x8E ∷ 0xFF ∷ 0xFF ∷ 0xFF ∷ 0x00 ∷ 0xFF ∷ 0xFF ∷ 0xFF ∷ 0xFF ∷ 0xFF ∷ 0xFF ∷ 0xFF ∷ 0x03 ∷ 0xFF ∷ 0xFF ∷ 0xFF ∷ 0x41 ∷ 0x42 ∷ 0x43 ∷ 0xFF ∷ [])
+
+pub movable-bit : Movable (geometry Bit) (object 8) (place 2 8) 6 FileData imageA
+unfolding geometryOk admit readable readAt typeOf markOf marksOf stateIn stateAt sizedAt headerAt payloadOf totalOf
+movable-bit =
+    record {
+      fine = refl;
+      bytes = bytes-by imageA tt;
+      just-read = refl;
+      finished = refl;
+      aligned = refl;
+      whole = lit≤ tt;
+      block = lit< tt;
+      in-block = lit≤ tt;
+      erased = blank-by 520 6 imageA refl;
+      aligned-to = refl;
+      large = lit≤ tt;
+      apart = inl (lit≤ tt);
+    }
+
+pub movable-byte : Movable (geometry Word1) (object 8) (place 2 8) 7 FileData imageC
+unfolding geometryOk admit readable readAt typeOf pairOf marksOf stateIn stateAt sizedAt headerAt payloadOf totalOf
+movable-byte =
+    record {
+      fine = refl;
+      bytes = bytes-by imageC tt;
+      just-read = refl;
+      finished = refl;
+      aligned = refl;
+      whole = lit≤ tt;
+      block = lit< tt;
+      in-block = lit≤ tt;
+      erased = blank-by 520 7 imageC refl;
+      aligned-to = refl;
+      large = lit≤ tt;
+      apart = inl (lit≤ tt);
+    }
+
+pub movable-word : Movable (geometry Word4) (object 12) (place 2 12) 20 FileData imageB
+unfolding geometryOk admit readable readAt typeOf pairOf marksOf stateIn stateAt sizedAt headerAt payloadOf totalOf
+movable-word =
+    record {
+      fine = refl;
+      bytes = bytes-by imageB tt;
+      just-read = refl;
+      finished = refl;
+      aligned = refl;
+      whole = lit≤ tt;
+      block = lit< tt;
+      in-block = lit≤ tt;
+      erased = blank-by 524 20 imageB refl;
+      aligned-to = refl;
+      large = lit≤ tt;
+      apart = inl (lit≤ tt);
+    }
+
+-- ---- the same object moved back into its own block, right behind itself
+
+pub movable-behind : Movable (geometry Bit) (object 8) (place 0 14) 242 FileData imageA
+unfolding geometryOk admit readable readAt typeOf markOf marksOf stateIn stateAt sizedAt headerAt payloadOf totalOf
+movable-behind =
+    record {
+      fine = refl;
+      bytes = bytes-by imageA tt;
+      just-read = refl;
+      finished = refl;
+      aligned = refl;
+      whole = lit≤ tt;
+      block = lit< tt;
+      in-block = lit≤ tt;
+      erased = blank-by 14 242 imageA refl;
+      aligned-to = refl;
+      large = lit≤ tt;
+      apart = inl (lit≤ tt);
+    }
+
+-- row 11: "fuse 5 original only, 6 both, 7 copy only"
+pub row-eleven-units : unitsTo (geometry Bit) (object 8) ≡ 5
+unfolding payloadOf
+row-eleven-units = refl
+
+pub row-eleven-payload : payloadIn (geometry Bit) (object 8) imageA ≡ 0x41 ∷ 0x42 ∷ 0x43 ∷ []
+unfolding payloadOf
+row-eleven-payload = refl
+
+pub row-eleven : (k : ℕ) → Survives (geometry Bit) (object 8) (place 2 8) FileData (payloadIn (geometry Bit) (object 8) imageA) imageA k (run (Units k) (moveObject (geometry Bit) (object 8) (place 2 8)) imageA)
+unfolding Demand
+row-eleven k = demand (geometry Bit) (object 8) (place 2 8) 6 FileData imageA movable-bit .1 k
+
+-- ---- listings: row 11's object in block 0, and the rest of block 2 as its destination; or the rest of its own block
+
+pub movable-end : Movable (geometry Bit) (object 8) (place 2 8) 248 FileData imageA
+unfolding geometryOk admit readable readAt typeOf markOf marksOf stateIn stateAt sizedAt headerAt payloadOf totalOf
+movable-end =
+    record {
+      fine = refl;
+      bytes = bytes-by imageA tt;
+      just-read = refl;
+      finished = refl;
+      aligned = refl;
+      whole = lit≤ tt;
+      block = lit< tt;
+      in-block = lit≤ tt;
+      erased = blank-by 520 248 imageA refl;
+      aligned-to = refl;
+      large = lit≤ tt;
+      apart = inl (lit≤ tt);
+    }
+
+pub listable-end : Listable (geometry Bit) (object 8) (place 2 8) 248 imageA
+unfolding geometryOk admit readable readAt typeOf markOf marksOf stateIn stateAt sizedAt headerAt payloadOf totalOf infoAt nextOf listFrom listing
+listable-end =
+    record {
+      listed = record { before = []; after = []; is = refl };
+      to-end = refl;
+      header-fits = lit< tt;
+      last = refl;
+      stop = refl;
+    }
+
+pub listable-behind : Listable (geometry Bit) (object 8) (place 0 14) 242 imageA
+unfolding geometryOk admit readable readAt typeOf markOf marksOf stateIn stateAt sizedAt headerAt payloadOf totalOf infoAt nextOf listFrom listing
+listable-behind =
+    record {
+      listed = record { before = []; after = []; is = refl };
+      to-end = refl;
+      header-fits = lit< tt;
+      last = refl;
+      stop = refl;
+    }
+
+-- one before the move, so that the listings show 1, 2 and 1
+pub row-eleven-copies : copiesBefore (geometry Bit) (object 8) (place 2 8) FileData imageA ≡ 1
+unfolding geometryOk admit readable readAt typeOf markOf marksOf stateIn stateAt sizedAt headerAt payloadOf totalOf infoAt nextOf listFrom listing readerAt remainingOf leftOf readSome payloadRead isCopy
+row-eleven-copies = refl
+
+pub row-eleven-counted : Counted (geometry Bit) (object 8) (place 2 8) FileData imageA
+unfolding Listings
+row-eleven-counted = listings (geometry Bit) (object 8) (place 2 8) 248 FileData imageA movable-end listable-end
+
+-- ---- why a header has to fit behind: an empty object that is moved to end with its block reads whole there, and no listing shows it any more
+
+abbrev imageEmpty : List ℕ
+imageEmpty = holding 8 (0x8E ∷ 0xF0 ∷ 0x00 ∷ [])
+
+abbrev empty : ObjectHeader
+empty = record { state = Allocated FileData Valid; size = 0; location = place 0 8 }
+
+pub movable-last : Movable (geometry Bit) empty (place 2 253) 3 FileData imageEmpty
+unfolding geometryOk admit readable readAt typeOf markOf marksOf stateIn stateAt sizedAt headerAt payloadOf totalOf
+movable-last =
+    record {
+      fine = refl;
+      bytes = bytes-by imageEmpty tt;
+      just-read = refl;
+      finished = refl;
+      aligned = refl;
+      whole = lit≤ tt;
+      block = lit< tt;
+      in-block = lit≤ tt;
+      erased = blank-by 765 3 imageEmpty refl;
+      aligned-to = refl;
+      large = lit≤ tt;
+      apart = inl (lit≤ tt);
+    }
+
+pub not-listed : (copiesBefore (geometry Bit) empty (place 2 253) FileData imageEmpty ≡ 1) × (copiesAfter (geometry Bit) empty (place 2 253) FileData imageEmpty Absent ≡ 0)
+unfolding geometryOk admit _>>=_ ask test putting run readable writable readAt write typeOf markOf marksOf stateIn stateAt sizedAt headerAt payloadOf totalOf allocatableOf marking setState sizableOf setPayloadSize infoAt nextOf listFrom listing readerAt remainingOf leftOf readSome soundOf allocate appendable putBytes append finishable flush close finalize sourceAt chunk copying copyObject moveObject payloadRead isCopy
+not-listed = (refl, refl)

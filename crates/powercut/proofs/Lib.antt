@@ -1,0 +1,10 @@
+pub mod Places
+pub mod Reading
+pub mod Crash
+pub mod Ran
+pub mod Survive
+pub mod Answers
+pub mod Walk
+pub mod Phantom
+pub mod Listed
+pub mod Instance

@@ -1,0 +1,219 @@
+-- An unfinished copy is stepped over by its header alone, so that a listing reads its payload as headers. Nothing that it finds there is a
+-- finished object of the copy's own payload: such a payload would be all FF, and so would be the byte of its type.
+use mathlib.Core.Path.{_≡_, refl, sym, ap, ap₂, _∙_, subst}
+use mathlib.Core.Logic.{_⊎_, inl, inr}
+use mathlib.Core.Bool.{Bool, true, false, _&&_, and-false}
+use mathlib.Core.List.{List, [], _∷_, _++_}
+use Prim.Native.Nat.{ℕ, zero, suc, _+_, _-_, _*_, _≤_, _<_, min}
+use native.Mathlib.Nat.{sub-zero, zero-sub, mul-le-mul-right}
+use native.Mathlib.Omega.{arith}
+use lib.ListN.{length, take, getD}
+use lib.Seq.{take-all, take-nil, length-take-le, getD-take}
+use lib.Dec.{eqb}
+use lib.Bits.{bitAnd}
+use borrow.Author.Tests.{le-leb, eqb-true}
+use Rattle.medium.specs.declared.granularity.Granularity.{Granularity}
+use Rattle.medium.specs.declared.geometry.Geometry.{Geometry}
+use Rattle.medium.specs.Granularity.{pick, widthOf, unitsIn, sizeAt, header}
+use Rattle.medium.specs.Geometry.{checkOf, address}
+use Rattle.medium.specs.Units.{FlashUnit, padded, unitsOf, program}
+use Rattle.medium.specs.Operation.{apply, Answer, done, refused, andThen}
+use Rattle.medium.specs.Medium.{readAt}
+use Rattle.objects.specs.declared.types.ObjectType.{ObjectType}
+use Rattle.objects.specs.declared.state.ObjectDataState.the-variants.{Untrusted, Valid, Deleted}
+use Rattle.objects.specs.declared.state.CompositeObjectState.{CompositeObjectState}
+use Rattle.objects.specs.declared.state.CompositeObjectState.the-variants.{Free, Allocated}
+use Rattle.objects.specs.declared.location.ObjectLocation.{ObjectLocation}
+use Rattle.objects.specs.declared.header.ObjectHeader.{ObjectHeader}
+use Rattle.objects.specs.declared.iterator.ObjectIterator.{ObjectIterator}
+use Rattle.objects.specs.declared.iterator.Next.{Next}
+use Rattle.objects.specs.declared.iterator.Next.the-variants as next
+use Rattle.objects.specs.Types.{typeByte}
+use Rattle.objects.specs.Header.{headerAt, payloadOf}
+use Rattle.objects.specs.Info.{Info, found, none, infoAt}
+use Rattle.objects.specs.Reader.{Chunk, readerAt, remainingOf, leftOf, readSome}
+use Rattle.objects.specs.Listing.{placed, nextOf, listBy, listFrom}
+use Rattle.powercut.specs.Demand.{readerOf}
+use Rattle.powercut.specs.Listed.{same, payloadRead, isPayload, isCopy, countIn}
+use Rattle.medium.proofs.Runs.{apply-append, leb-is}
+use Rattle.medium.proofs.Bytes.{ff-and, program-off, program-at, Misses, All-take, frame, length-apply, length-padded, getD-padded, getD-pad, words-cut, getD-part, length-part, length-units}
+use Rattle.medium.proofs.Places.{Laid, laid}
+use Rattle.medium.proofs.Checks.{within, fine-of-check}
+use Rattle.powercut.proofs.Reading.{seen-free, Got, read-back, header-back, header-read, headerOf}
+use Rattle.powercut.specs.Stores.{typeUnits, payUnits, sizeUnits, before}
+use Rattle.powercut.proofs.Crash.{Given, type-clear, size-clear}
+use Rattle.powercut.proofs.Walk.{place, visit, spanAt, Stepped, next-back, info-back}
+
+-- ---- the bytes of the payload, as far as it is stored
+
+pub take-both : {A : Type 0} (k : ℕ) (xs ys : List A) → take k (xs ++ ys) ≡ take k xs ++ take (k - length xs) ys
+take-both k [] ys = ap₂ (λ n zs. zs ++ take n ys) (sym (sub-zero k)) (sym (take-nil k))
+take-both zero (x ∷ xs) ys = ap (λ n. take n ys) (sym (zero-sub (suc (length xs))))
+take-both (suc k) (x ∷ xs) ys = let n : k - length xs ≡ suc k - suc (length xs) = omega arith in ap (λ l. x ∷ l) (take-both k xs ys ∙ ap (λ (i : ℕ). take k xs ++ take i ys) n)
+
+-- FF, or the byte that is stored there
+abbrev pub Partly : List ℕ → ℕ → ℕ → Type 0
+Partly bs i x = (x ≡ 255) ⊎ ((i < length bs) × (x ≡ getD bs i 0))
+
+module _ (w : ℕ) (hw : 0 < w) (a : ℕ) (bs img : List ℕ) (i : ℕ) (hl : a + i < length img) (blank : getD img (a + i) 0 ≡ 255) (small : i < length bs → getD bs i 0 < 256) where
+  stored-byte : (k : ℕ) → k ≤ unitsIn w (length bs) → Partly bs i (getD (program a (take (k * w) (padded w bs)) img) (a + i) 0)
+  stored-byte k h = go (leb-is (k * w) i) (leb-is (length bs) i)
+    where
+      long : length (take (k * w) (padded w bs)) ≡ k * w
+      long = length-take-le (k * w) (padded w bs) (omega (arith, length-padded w hw bs, mul-le-mul-right w h))
+
+      at : i < k * w → getD (program a (take (k * w) (padded w bs)) img) (a + i) 0 ≡ bitAnd 255 (getD (padded w bs) i 0)
+      at c =
+          program-at a (take (k * w) (padded w bs)) img i 0 (omega (arith, long)) hl
+          ∙ ap₂ bitAnd blank (getD-take (k * w) (padded w bs) i 0 c)
+
+      go : (k * w ≤ i) ⊎ (i < k * w) → (length bs ≤ i) ⊎ (i < length bs) → Partly bs i (getD (program a (take (k * w) (padded w bs)) img) (a + i) 0)
+      go (inl c) d = inl (program-off a (take (k * w) (padded w bs)) img (a + i) 0 (inr (omega (arith, long))) ∙ blank)
+      go (inr c) (inl d) = inl (at c ∙ ap (bitAnd 255) (getD-pad w hw bs i 0 d (omega (arith, mul-le-mul-right w h))))
+      go (inr c) (inr d) = inr (d, at c ∙ ap (bitAnd 255) (getD-padded w hw bs i 0 d) ∙ ff-and (getD bs i 0) (small d))
+
+  pub partly : (k : ℕ) → Partly bs i (getD (apply (take k (unitsOf w a bs)) img) (a + i) 0)
+  partly k = go (leb-is k (unitsIn w (length bs)))
+    where
+      cut : (n : ℕ) → n ≤ unitsIn w (length bs) → Partly bs i (getD (apply (take n (unitsOf w a bs)) img) (a + i) 0)
+      cut n h = subst (λ (m : List ℕ). Partly bs i (getD m (a + i) 0)) (sym (words-cut n (unitsIn w (length bs)) w a (padded w bs) img h (length-padded w hw bs))) (stored-byte n h)
+
+      go : (k ≤ unitsIn w (length bs)) ⊎ (unitsIn w (length bs) < k) → Partly bs i (getD (apply (take k (unitsOf w a bs)) img) (a + i) 0)
+      go (inl h) = cut k h
+      go (inr h) =
+          let n : length (unitsOf w a bs) ≡ unitsIn w (length bs) = length-units w a bs in
+          subst (λ (us : List FlashUnit). Partly bs i (getD (apply us img) (a + i) 0))
+          (take-all (unitsIn w (length bs)) (unitsOf w a bs) (omega arith) ∙ sym (take-all k (unitsOf w a bs) (omega arith))) (cut (unitsIn w (length bs)) (omega arith))
+
+module _ (g : Granularity) (s : ℕ) (t : ObjectType) (p q size : ℕ) (pay img : List ℕ) (v : Given g s t p q size pay img) where
+  -- each byte behind the copy's header, before its finish mark
+  pub payload-partly : (k i : ℕ) → q + header g s + i < length img → getD img (q + header g s + i) 0 ≡ 255 → (i < length pay → getD pay i 0 < 256)
+      → Partly pay i (getD (apply (take k (before g s t pay q)) img) (q + header g s + i) 0)
+  payload-partly k i hl blank small =
+      let l : Laid g s (length pay) = laid g s (length pay) (v .width-3) in
+      let T : List FlashUnit = typeUnits g t q in
+      let P : List FlashUnit = payUnits g s pay q in
+      let Z : List FlashUnit = sizeUnits g s (length pay) q in
+      let T₁ : List FlashUnit = take k (typeUnits g t q) in
+      let k₁ : ℕ = k - length (typeUnits g t q) in
+      let P₁ : List FlashUnit = take k₁ (payUnits g s pay q) in
+      let Z₁ : List FlashUnit = take (k₁ - length (payUnits g s pay q)) (sizeUnits g s (length pay) q) in
+      let cut : take k (before g s t pay q) ≡ T₁ ++ (P₁ ++ Z₁) = take-both k T (P ++ Z) ∙ ap (λ (us : List FlashUnit). T₁ ++ us) (take-both k₁ P Z) in
+      let ft : getD (apply T₁ img) (q + header g s + i) 0 ≡ getD img (q + header g s + i) 0 =
+      frame (q + header g s + i) 0 T₁ img (All-take (Misses (q + header g s + i)) k T (type-clear g s t q pay l (q + header g s + i) q (q + widthOf g) (omega arith) (omega arith) (inr (omega (arith, l))))) in
+      let fz : getD (apply Z₁ (apply P₁ (apply T₁ img))) (q + header g s + i) 0 ≡ getD (apply P₁ (apply T₁ img)) (q + header g s + i) 0 =
+      frame (q + header g s + i) 0 Z₁ (apply P₁ (apply T₁ img))
+      (All-take (Misses (q + header g s + i)) (k₁ - length P) Z (size-clear g s t q pay l (q + header g s + i) (q + sizeAt g) (q + header g s) (omega arith) (omega arith) (inr (omega arith)))) in
+      let e : getD (apply (take k (before g s t pay q)) img) (q + header g s + i) 0 ≡ getD (apply P₁ (apply T₁ img)) (q + header g s + i) 0 =
+      ap (λ (us : List FlashUnit). getD (apply us img) (q + header g s + i) 0) cut
+      ∙ ap (λ (m : List ℕ). getD m (q + header g s + i) 0) (apply-append T₁ (P₁ ++ Z₁) img ∙ apply-append P₁ Z₁ (apply T₁ img)) ∙ fz in
+      subst (λ (y : ℕ). Partly pay i y) (sym e)
+      (partly (widthOf g) (l .pos) (q + header g s) pay (apply T₁ img) i (omega (arith, length-apply T₁ img)) (ft ∙ blank) small k₁)
+
+-- ---- a payload found further on in itself is all FF
+
+module _ (pay : List ℕ) (X : ℕ → ℕ) (d end : ℕ) (hd : 0 < d) (some : (j : ℕ) → j < end → Partly pay j (X j)) (inside : d + length pay ≤ end)
+    (found-again : (i : ℕ) → i < length pay → X (d + i) ≡ getD pay i 0) where
+  all-blank : (n i : ℕ) → length pay ≤ i + n → i < length pay → getD pay i 0 ≡ 255
+  all-blank zero i h k = absurd (omega arith)
+  all-blank (suc n) i h k = go (some (d + i) (omega arith)) (λ c. all-blank n (d + i) (omega arith) c)
+    where
+      go : Partly pay (d + i) (X (d + i)) → (d + i < length pay → getD pay (d + i) 0 ≡ 255) → getD pay i 0 ≡ 255
+      go (inl e) rec = sym (found-again i k) ∙ e
+      go (inr e) rec = sym (found-again i k) ∙ e .1 ∙ rec (e .0)
+
+  pub blank-before : (j : ℕ) → j < end → X j ≡ 255
+  blank-before j h = go (some j h)
+    where
+      go : Partly pay j (X j) → X j ≡ 255
+      go (inl e) = e
+      go (inr e) = e .1 ∙ all-blank (length pay) j (omega arith) (e .0)
+
+same-is : (xs ys : List ℕ) → same xs ys ≡ true → xs ≡ ys
+same-is [] [] e = refl
+same-is [] (y ∷ ys) e = let z : _≡_ {A = ℕ} 0 1 = cc in absurd (omega arith)
+same-is (x ∷ xs) [] e = let z : _≡_ {A = ℕ} 0 1 = cc in absurd (omega arith)
+same-is (x ∷ xs) (y ∷ ys) e = go (eqb x y) refl e (λ r. same-is xs ys r)
+  where
+    go : (c : Bool) → eqb x y ≡ c → (c && same xs ys) ≡ true → (same xs ys ≡ true → xs ≡ ys) → x ∷ xs ≡ y ∷ ys
+    go true q r rec = ap₂ (λ (a : ℕ) (l : List ℕ). a ∷ l) (eqb-true x y q) (rec r)
+    go false q r rec = let z : _≡_ {A = ℕ} 0 1 = cc in absurd (omega arith)
+
+module _ (g : Geometry) (b : ℕ) (m : List ℕ) (fine : checkOf g (length m) ≡ 0) (hb : b < g .count) (t : ObjectType) (pay : List ℕ) where
+  -- one read gives the payload of a finished object
+  pub read-forward : (o : ℕ) (u : ObjectType) (size : ℕ) → headerAt g (place g b o) m ≡ done (headerOf (Allocated u Valid) size (place g b o))
+      → payloadRead g (place g b o) m ≡ andThen (readAt g b (o + header (g .granularity) (g .s) + 0) (min 65536 (payloadOf (g .s) (headerOf (Allocated u Valid) size (place g b o)) - 0)) m) (λ bs. done bs)
+  unfolding payloadRead readerAt readSome remainingOf leftOf
+  read-forward o u size e =
+      rw (e, fine, le-leb 0 (payloadOf (g .s) (headerOf (Allocated u Valid) size (place g b o))) (omega arith))
+      (go (readAt g b (o + header (g .granularity) (g .s) + 0) (min 65536 (payloadOf (g .s) (headerOf (Allocated u Valid) size (place g b o)) - 0)) m))
+    where
+      go : (a : Answer (List ℕ)) → andThen {A = Chunk} (andThen {B = Chunk} a (λ bs. done (record { bytes = bs; reader = readerOf (headerOf (Allocated u Valid) size (place g b o)) (0 + min 65536 (payloadOf (g .s) (headerOf (Allocated u Valid) size (place g b o)) - 0)) }))) (λ k. done (k .bytes))
+          ≡ andThen a (λ bs. done bs)
+      go (done bs) = refl
+      go (refused n) = refl
+
+  -- behind an unfinished copy at an offset
+  module _ (to : ℕ) (fits : to + header (g .granularity) (g .s) < g .size)
+      (some : (j : ℕ) → to + header (g .granularity) (g .s) + j < g .size → Partly pay j (getD m (address g b to + header (g .granularity) (g .s) + j) 0)) where
+    -- no finished object there has the copy's payload
+    no-such : (o n : ℕ) (h : ObjectHeader) (bs : List ℕ) → to + header (g .granularity) (g .s) ≤ o → infoAt g (place g b o) m ≡ done (found h)
+        → o + header (g .granularity) (g .s) < g .size → readAt g b (o + header (g .granularity) (g .s) + 0) n m ≡ done bs → bs ≡ pay → ⊥
+    unfolding infoAt
+    no-such o n h bs ho info ho2 r e =
+        let c : Got g b (o + header (g .granularity) (g .s) + 0) n m bs = read-back g b (o + header (g .granularity) (g .s) + 0) n m bs r in
+        let whole : g .size * g .count ≡ length m = fine-of-check g (length m) (checkOf g (length m)) refl fine .whole in
+        let l : Laid (g .granularity) (g .s) 0 = laid (g .granularity) (g .s) 0 (fine-of-check g (length m) (checkOf g (length m)) refl fine .sound .s-most) in
+        let room : b * g .size + (o + header (g .granularity) (g .s) + 0) + n ≤ length m = within b (o + header (g .granularity) (g .s) + 0) n (g .size) (g .count) (length m) hb (c .fits) whole in
+        let ln : n ≡ length pay = sym (length-part (address g b (o + header (g .granularity) (g .s) + 0)) n m room) ∙ ap length (sym (c .bytes-are) ∙ e) in
+        let again : (i : ℕ) → i < length pay → getD m (address g b to + header (g .granularity) (g .s) + (o - to + i)) 0 ≡ getD pay i 0 =
+        λ i k.
+        let x : address g b to + header (g .granularity) (g .s) + (o - to + i) ≡ address g b (o + header (g .granularity) (g .s) + 0) + i = omega arith in
+        ap (λ (y : ℕ). getD m y 0) x ∙ sym (getD-part (address g b (o + header (g .granularity) (g .s) + 0)) n m i 0 (omega arith)) ∙ ap (λ (ys : List ℕ). getD ys i 0) (sym (c .bytes-are) ∙ e) in
+        let type-at : address g b to + header (g .granularity) (g .s) + (o - to - header (g .granularity) (g .s)) ≡ address g b o = omega arith in
+        let type-byte : getD m (address g b o) 0 ≡ 255 =
+        ap (λ (y : ℕ). getD m y 0) (sym type-at)
+        ∙ blank-before pay (λ j. getD m (address g b to + header (g .granularity) (g .s) + j) 0) (o - to) (g .size - (to + header (g .granularity) (g .s))) (omega (arith, l))
+        (λ j k. some j (omega arith)) (omega (arith, c .fits)) again (o - to - header (g .granularity) (g .s)) (omega arith) in
+        let free-there : infoAt g (place g b o) m ≡ done none =
+        rw (header-read g (place g b o) m Free _ fine hb (omega (arith, l)) (seen-free (g .granularity) (address g b o) m type-byte) refl) in
+        let clash : _≡_ {A = Answer Info} (done none) (done (found h)) = sym free-there ∙ info in
+        let z : _≡_ {A = ℕ} 0 1 = cc in absurd (omega arith)
+
+    not-copy : (o : ℕ) (st : CompositeObjectState) (size : ℕ) → to + header (g .granularity) (g .s) ≤ o → infoAt g (place g b o) m ≡ done (found (headerOf st size (place g b o)))
+        → o + header (g .granularity) (g .s) < g .size → isCopy g b t pay m (visit g b o (headerOf st size (place g b o))) ≡ false
+    unfolding isCopy
+    not-copy o Free size ho info ho2 = refl
+    not-copy o (Allocated u Untrusted) size ho info ho2 = refl
+    not-copy o (Allocated u Deleted) size ho info ho2 = refl
+    not-copy o (Allocated u Valid) size ho info ho2 =
+        ap (λ (x : Answer (List ℕ)). eqb (typeByte u) (typeByte t) && isPayload x pay) (read-forward o u size (info-back g b o m (headerOf (Allocated u Valid) size (place g b o)) info))
+        ∙ go (readAt g b (o + header (g .granularity) (g .s) + 0) (min 65536 (payloadOf (g .s) (headerOf (Allocated u Valid) size (place g b o)) - 0)) m) refl
+      where
+        same-no : (bs : List ℕ) → readAt g b (o + header (g .granularity) (g .s) + 0) (min 65536 (payloadOf (g .s) (headerOf (Allocated u Valid) size (place g b o)) - 0)) m ≡ done bs
+            → (x : Bool) → same bs pay ≡ x → x ≡ false
+        same-no bs r true e = absurd (no-such o _ (headerOf (Allocated u Valid) size (place g b o)) bs ho info ho2 r (same-is bs pay e))
+        same-no bs r false e = refl
+
+        go : (a : Answer (List ℕ)) → readAt g b (o + header (g .granularity) (g .s) + 0) (min 65536 (payloadOf (g .s) (headerOf (Allocated u Valid) size (place g b o)) - 0)) m ≡ a
+            → (eqb (typeByte u) (typeByte t) && isPayload (andThen a (λ bs. done bs)) pay) ≡ false
+        go (done bs) r = ap (λ (x : Bool). eqb (typeByte u) (typeByte t) && x) (same-no bs r (same bs pay) refl) ∙ and-false (eqb (typeByte u) (typeByte t))
+        go (refused n) r = and-false (eqb (typeByte u) (typeByte t))
+
+    pub none-behind : (n o : ℕ) → to + header (g .granularity) (g .s) ≤ o → countIn g b t pay m (listFrom n g (placed b o) m .visits) ≡ 0
+    unfolding listFrom
+    none-behind zero o h = refl
+    none-behind (suc n) o h = go (nextOf g (placed b o) m) refl (λ y k. none-behind n y k)
+      where
+        go : (x : Next) → nextOf g (placed b o) m ≡ x → ((y : ℕ) → to + header (g .granularity) (g .s) ≤ y → countIn g b t pay m (listFrom n g (placed b y) m .visits) ≡ 0)
+            → countIn g b t pay m (listBy x (placed b o) (λ j. listFrom n g j m) .visits) ≡ 0
+        go (next.Object k j) q rec =
+            let d : Stepped g b o m k j = next-back g b o m k j q in
+            let at : k ≡ headerOf (k .state) (k .size) (place g b o) = ap (λ (x : ObjectLocation). headerOf (k .state) (k .size) x) (header-back g (place g b o) m k (info-back g b o m k (d .info)) .located) in
+            let no : isCopy g b t pay m (visit g b o k) ≡ false =
+            ap (λ (x : ObjectHeader). isCopy g b t pay m (visit g b o x)) at ∙ not-copy o (k .state) (k .size) h (d .info ∙ ap (λ (x : ObjectHeader). done (found x)) at) (d .fits) in
+            ap₂ (λ (x : Bool) (i : ℕ). pick x 1 0 + i) no
+            (subst (λ (x : ObjectIterator). countIn g b t pay m (listFrom n g x m .visits) ≡ 0) (d .behind) (rec (o + spanAt g b k) (omega arith)))
+        go next.Free q rec = refl
+        go next.End q rec = refl
+        go (next.Refused k) q rec = refl

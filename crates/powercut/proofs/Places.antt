@@ -1,0 +1,61 @@
+-- Where an object's bytes lie, for all three granularities at once: after this file nothing splits on the granularity but one-liners.
+use mathlib.Core.Path.{_≡_, refl, sym, ap, _∙_}
+use Prim.Native.Nat.{ℕ, zero, suc, _+_, _-_, _*_, _/_, _%_, _^_, _≤_, _<_}
+use native.Mathlib.Nat.{mul-assoc}
+use native.Mathlib.Omega.{arith}
+use Rattle.medium.specs.declared.granularity.Granularity.{Granularity}
+use Rattle.medium.specs.declared.granularity.Granularity.the-variants.{Bit, Word1, Word4}
+use Rattle.medium.specs.declared.geometry.Geometry.{Geometry}
+use Rattle.medium.specs.Granularity.{widthOf, unitsIn, alignOf, finishAt, deleteAt, sizeAt, header}
+use Rattle.medium.specs.Geometry.{limitOf, address}
+use Rattle.medium.proofs.Places.{even-add, quad-even}
+
+-- the bytes that an object with n bytes of payload takes, aligned up
+abbrev pub span : Granularity → ℕ → ℕ → ℕ
+span g s n = alignOf (widthOf g) (header g s + n)
+
+-- ---- alignment
+
+-- a held tail, padded, ends within the span
+pub tail-room : (g : Granularity) (s cur n : ℕ) → cur % widthOf g ≡ 0 → header g s + cur + unitsIn (widthOf g) n * widthOf g ≤ span g s (cur + n)
+tail-room Bit s cur n h = omega arith
+tail-room Word1 s cur n h = omega arith
+tail-room Word4 s cur n h = omega arith
+
+-- what is stored at once is whole words
+pub record Floored (g : Granularity) (n : ℕ) : Type 0 where
+  pub even-mod : (n - n % widthOf g) % widthOf g ≡ 0
+  pub even-units : unitsIn (widthOf g) (n - n % widthOf g) * widthOf g ≡ n - n % widthOf g
+  pub even-count : (n - n % widthOf g) / widthOf g * widthOf g ≡ n - n % widthOf g
+  pub rest : n - (n - n % widthOf g) < widthOf g
+
+pub floored : (g : Granularity) (n : ℕ) → Floored g n
+floored Bit n = omega arith
+floored Word1 n = omega arith
+floored Word4 n = omega arith
+
+-- ---- an aligned place and what ends before another
+
+-- what ends before an aligned place ends before it when aligned up
+pub up-to : (g : Granularity) (p n q : ℕ) → p % widthOf g ≡ 0 → q % widthOf g ≡ 0 → p + n ≤ q → p + alignOf (widthOf g) n ≤ q
+up-to Bit p n q h k r = omega arith
+up-to Word1 p n q h k r = omega arith
+up-to Word4 p n q h k r = omega arith
+
+-- an address of an aligned offset is aligned
+pub address-even : (g : Geometry) (b off : ℕ) → g .size % 4 ≡ 0 → off % widthOf (g .granularity) ≡ 0 → address g b off % widthOf (g .granularity) ≡ 0
+address-even g b off h k = even-add (g .granularity) (b * g .size) off (quad-even (g .granularity) (b * g .size) (omega (arith, four))) k
+  where
+    four : b * g .size ≡ b * (g .size / 4) * 4
+    four =
+        let e : g .size ≡ g .size / 4 * 4 = omega arith in
+        ap (λ (x : ℕ). b * x) e ∙ sym (mul-assoc b (g .size / 4) 4)
+
+-- ---- the widths that are allowed
+
+pub limit-is : (s : ℕ) → 0 < s → s ≤ 3 → limitOf s ≡ 256 ^ s
+limit-is zero h k = absurd (omega arith)
+limit-is (suc zero) h k = refl
+limit-is (suc (suc zero)) h k = refl
+limit-is (suc (suc (suc zero))) h k = refl
+limit-is (suc (suc (suc (suc s)))) h k = absurd (omega arith)

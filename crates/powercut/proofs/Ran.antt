@@ -1,0 +1,510 @@
+-- What a copy and a move store with power: type, payload, size, finish mark, and then the original's delete mark; nothing else.
+use mathlib.Core.Path.{_≡_, refl, sym, ap, ap₂, _∙_, subst}
+use mathlib.Core.Logic.{_⊎_, inl, inr}
+use mathlib.Core.Bool.{false, _&&_}
+use mathlib.Core.List.{List, [], _∷_, _++_, append-assoc, append-nil}
+use Prim.Native.Nat.{ℕ, zero, suc, _+_, _-_, _*_, _/_, _%_, _≤_, _<_, min}
+use native.Mathlib.Nat.{zero-mod}
+use native.Mathlib.Omega.{arith}
+use lib.ListN.{length, take, drop, getD, length-append, length-take, length-drop, take-append-drop}
+use lib.Seq.{take-append-le, take-take, take-length}
+use lib.Dec.{leb, ltb, eqb}
+use borrow.Author.Tests.{le-leb, lt-ltb, eq-eqb, ne-eqb}
+use Rattle.medium.specs.declared.granularity.Granularity.{Granularity}
+use Rattle.medium.specs.declared.geometry.Geometry.{Geometry}
+use Rattle.medium.specs.Granularity.{pick, widthOf, unitsIn, alignOf, finishAt, deleteAt, finishMark, sizeAt, header}
+use Rattle.medium.specs.Geometry.{checkOf, address}
+use Rattle.medium.specs.Units.{FlashUnit, unitsOf}
+use Rattle.medium.specs.Operation.{flash, apply, Answer, done, andThen, orRefuse, Run, Op, follow, _>>=_, _>>_, ask, give, test, putting}
+use Rattle.medium.specs.Medium.{part, writable, readAt, write}
+use Rattle.objects.specs.declared.types.ObjectType.{ObjectType}
+use Rattle.objects.specs.declared.state.ObjectDataState.the-variants.{Untrusted, Valid, Deleted}
+use Rattle.objects.specs.declared.state.CompositeObjectState.{CompositeObjectState}
+use Rattle.objects.specs.declared.state.CompositeObjectState.the-variants.{Free, Allocated}
+use Rattle.objects.specs.declared.location.ObjectLocation.{ObjectLocation}
+use Rattle.objects.specs.declared.header.ObjectHeader.{ObjectHeader}
+use Rattle.objects.specs.declared.reader.ObjectReader.{ObjectReader}
+use Rattle.objects.specs.Numbers.{bytes, unsetOf}
+use Rattle.objects.specs.Types.{typeByte}
+use Rattle.objects.specs.Header.{stateAt, headerAt, payloadOf, allocatableOf, marking, stepTo, setState, sizableOf, withSize, setPayloadSize}
+use Rattle.objects.specs.Reader.{readerAt}
+use Rattle.writer.specs.declared.writer.ObjectWriter.{ObjectWriter}
+use Rattle.writer.specs.Writer.{noTail, withHeader, soundOf, allocate, appendable, pendingOf, wholeOf, tailOf, putBytes, append, finishable, flush, close, finalize}
+use Rattle.writer.specs.Moving.{sourceIn, sourceAt, chunk, turnsOf, copying, copyObject, moveObject}
+use Rattle.medium.proofs.Runs.{leb-is}
+use Rattle.medium.proofs.Bytes.{length-part, frame, length-apply}
+use Rattle.medium.proofs.Split.{units-split, none-stored, part-add}
+use Rattle.medium.proofs.Places.{width-is, Laid, laid, even-add}
+use Rattle.medium.proofs.Checks.{Fine, admit-pass, within, fine-of-check}
+use Rattle.powercut.proofs.Places.{span, tail-room, Floored, floored}
+use Rattle.powercut.proofs.Reading.{part-same, length-bytes, read-yes, state-read, headerOf}
+use Rattle.powercut.specs.Stores.{typeUnits, payUnits, sizeUnits, markUnits, deleteUnits, moveUnits}
+use Rattle.powercut.proofs.Crash.{Given, far, copy-free, inside}
+
+-- ---- steps that are done
+
+abbrev pub ran : {A : Type 0} → List FlashUnit → A → Run flash A
+ran us x = record { events = us; answer = done x }
+
+bind-ran : {A B : Type 0} (o : Op A) (p : A → Op B) (img : List ℕ) (us vs : List FlashUnit) (x : A) (y : B)
+    → o img ≡ ran us x → p x (apply us img) ≡ ran vs y → (o >>= p) img ≡ ran (us ++ vs) y
+unfolding _>>=_
+bind-ran {A} {B} o p img us vs x y e f =
+    ap (λ (r : Run flash A). follow {W = flash} (r .events) (r .answer) p img) e
+    ∙ ap (λ (r : Run flash B). record { events = us ++ r .events; answer = r .answer }) f
+
+ask-ran : {A : Type 0} (q : List ℕ → Answer A) (m : List ℕ) (x : A) → q m ≡ done x → ask {W = flash} q m ≡ ran [] x
+unfolding ask
+ask-ran q m x e = rw e
+
+test-ran : (q : List ℕ → ℕ) (m : List ℕ) → q m ≡ 0 → test {W = flash} q m ≡ ran [] tt
+unfolding test
+test-ran q m e = ask-ran (λ i. orRefuse (q i)) m tt (rw e)
+
+-- a step that stores and then gives a value
+store-ran : {A : Type 0} (o : Op (Unit {0})) (m : List ℕ) (us : List FlashUnit) (x : A) → o m ≡ ran us tt → (o >> give x) m ≡ ran us x
+store-ran o m us x e = bind-ran o (λ _. give x) m us [] tt x e (ask-ran (λ _. done x) (apply us m) x refl) ∙ ap (λ (l : List FlashUnit). ran l x) (append-nil us)
+
+-- a test, and then the rest
+tested : {A : Type 0} (q : List ℕ → ℕ) (p : Op A) (m : List ℕ) (us : List FlashUnit) (x : A) → q m ≡ 0 → p m ≡ ran us x → (test q >> p) m ≡ ran us x
+tested q p m us x e f = bind-ran (test q) (λ _. p) m [] us tt x (test-ran q m e) f
+
+asked : {A B : Type 0} (q : List ℕ → Answer A) (p : A → Op B) (m : List ℕ) (us : List FlashUnit) (x : A) (y : B) → q m ≡ done x → p x m ≡ ran us y → (ask q >>= p) m ≡ ran us y
+asked q p m us x y e f = bind-ran (ask q) p m [] us x y (ask-ran q m x e) f
+
+write-ran : (g : Geometry) (b off : ℕ) (bs m : List ℕ) → checkOf g (length m) ≡ 0 → b < g .count → off % widthOf (g .granularity) ≡ 0
+    → off + alignOf (widthOf (g .granularity)) (length bs) ≤ g .size → write g b off bs m ≡ ran (unitsOf (widthOf (g .granularity)) (address g b off) bs) tt
+unfolding write writable putting
+write-ran g b off bs m f h k r =
+    rw (admit-pass g (length m) (pick (ltb b (g .count) && eqb (off % widthOf (g .granularity)) 0 && leb (off + alignOf (widthOf (g .granularity)) (length bs)) (g .size)) 0 3) (checkOf g (length m)) refl f, lt-ltb b (g .count) h, eq-eqb (off % widthOf (g .granularity)) 0 k, le-leb (off + alignOf (widthOf (g .granularity)) (length bs)) (g .size) r)
+
+-- what is held comes back as it was put away
+tail-held : (tl : List ℕ) → length tl ≤ 4 → take (length tl) (tailOf tl) ≡ tl
+tail-held tl h = take-take (length tl) 4 (tl ++ noTail) h ∙ take-append-le (length tl) tl noTail (omega arith) ∙ take-length tl
+
+-- ---- the move of an object: what is given
+
+pub record Ready (g : Geometry) (h : ObjectHeader) (to : ObjectLocation) (t : ObjectType) (pay img : List ℕ) : Type 0 where
+  pub fine : checkOf g (length img) ≡ 0
+  pub just-read : headerAt g (h .location) img ≡ done h
+  pub finished : h .state ≡ Allocated t Valid
+  pub payload : payloadOf (g .s) h ≡ length pay
+  pub block : h .location .block < g .count
+  pub aligned : h .location .offset % widthOf (g .granularity) ≡ 0
+  pub in-block : h .location .offset + span (g .granularity) (g .s) (length pay) ≤ g .size
+  pub block-to : to .block < g .count
+  pub aligned-to : to .offset % widthOf (g .granularity) ≡ 0
+  pub in-block-to : to .offset + span (g .granularity) (g .s) (length pay) ≤ g .size
+  pub given : Given (g .granularity) (g .s) t (address g (h .location .block) (h .location .offset)) (address g (to .block) (to .offset)) (h .size) pay img
+
+module _ (g : Geometry) (h : ObjectHeader) (to : ObjectLocation) (t : ObjectType) (pay img : List ℕ) (v : Ready g h to t pay img) where
+  abbrev gr : Granularity
+  gr = g .granularity
+
+  abbrev w : ℕ
+  w = widthOf (g .granularity)
+
+  abbrev H : ℕ
+  H = header (g .granularity) (g .s)
+
+  abbrev b : ℕ
+  b = h .location .block
+
+  abbrev off : ℕ
+  off = h .location .offset
+
+  abbrev p : ℕ
+  p = address g (h .location .block) (h .location .offset)
+
+  abbrev q : ℕ
+  q = address g (to .block) (to .offset)
+
+  abbrev sp : ℕ
+  sp = span (g .granularity) (g .s) (length pay)
+
+  fine-is : Fine g (length img)
+  fine-is = fine-of-check g (length img) (checkOf g (length img)) refl (v .fine)
+
+  l : Laid (g .granularity) (g .s) (length pay)
+  l = laid (g .granularity) (g .s) (length pay) (v .given .width-3)
+
+  small : g .size ≤ 65536
+  small = fine-is .sound .small
+
+  narrow : widthOf (g .granularity) ≤ 4
+  narrow = width-is (g .granularity) .1
+
+  still : (m : List ℕ) → length m ≡ length img → checkOf g (length m) ≡ 0
+  still m e = ap (checkOf g) e ∙ v .fine
+
+  in-image : p + sp ≤ length img
+  in-image = within (h .location .block) (h .location .offset) sp (g .size) (g .count) (length img) (v .block) (v .in-block) (fine-is .whole)
+
+  -- a store into the destination's block, or the original's
+  put : (m : List ℕ) (x : ℕ) (bs : List ℕ) → length m ≡ length img → x % w ≡ 0 → x + alignOf w (length bs) ≤ sp → write g (to .block) (to .offset + x) bs m ≡ ran (unitsOf w (q + x) bs) tt
+  put m x bs e a r =
+      let ad : address g (to .block) (to .offset + x) ≡ q + x = omega arith in
+      write-ran g (to .block) (to .offset + x) bs m (still m e) (v .block-to) (even-add (g .granularity) (to .offset) x (v .aligned-to) a) (omega (arith, v .in-block-to))
+      ∙ ap (λ (i : ℕ). ran (unitsOf w i bs) tt) ad
+
+  put-original : (m : List ℕ) (x : ℕ) (bs : List ℕ) → length m ≡ length img → x % w ≡ 0 → x + alignOf w (length bs) ≤ sp → write g b (off + x) bs m ≡ ran (unitsOf w (p + x) bs) tt
+  put-original m x bs e a r =
+      let ad : address g (h .location .block) (h .location .offset + x) ≡ p + x = omega arith in
+      write-ran g (h .location .block) (h .location .offset + x) bs m (still m e) (v .block) (even-add (g .granularity) (h .location .offset) x (v .aligned) a) (omega (arith, v .in-block))
+      ∙ ap (λ (i : ℕ). ran (unitsOf w i bs) tt) ad
+
+  -- ---- the writer of the copy
+
+  abbrev begun : ObjectHeader
+  begun = headerOf (Allocated t Untrusted) (unsetOf (g .s)) to
+
+  abbrev writer : ℕ → List ℕ → ObjectWriter
+  writer cur tl = record { object = begun; cursor = cur; tail = tailOf tl; held = length tl; spent = false }
+
+  -- the last of it: nothing is held, and the header is the copy's
+  abbrev copy : ObjectHeader
+  copy = headerOf (Allocated t Valid) (length pay) to
+
+  sound-ran : (cur : ℕ) (tl m : List ℕ) → length m ≡ length img → length tl < w → cur ≤ g .size → soundOf (writer cur tl) g (length m) ≡ 0
+  unfolding soundOf
+  sound-ran cur tl m e lt c =
+      let c2 : cur ≤ 65536 = omega (arith, small) in
+      rw (admit-pass g (length m) (pick (ltb (length tl) w && leb cur 65536) 0 4) (checkOf g (length m)) refl (still m e), lt-ltb (length tl) w lt, le-leb cur 65536 c2)
+
+  -- ---- payload
+
+  append-test : (cur : ℕ) (tl c m : List ℕ) → length m ≡ length img → length tl < w → cur + length tl + length c ≤ length pay → appendable (writer cur tl) g (length m) (length c) ≡ 0
+  unfolding appendable
+  append-test cur tl c m e lt r =
+      let n1 : to .offset + H + cur + length tl ≤ g .size = omega (arith, l, v .in-block-to) in
+      let n2 : to .offset + H + cur + length tl + length c ≤ g .size = omega (arith, l, v .in-block-to) in
+      let n3 : cur ≤ g .size = omega (arith, l, v .in-block-to) in
+      rw (sound-ran cur tl m e lt n3, le-leb _ _ n1, le-leb _ _ n2)
+
+  abbrev whole : List ℕ → List ℕ → ℕ
+  whole tl c = length (tl ++ c) - length (tl ++ c) % w
+
+  append-ran : (cur : ℕ) (tl c m : List ℕ) → length m ≡ length img → length tl < w → cur + length tl + length c ≤ length pay → cur % w ≡ 0
+      → append g (writer cur tl) c m ≡ ran (unitsOf w (q + H + cur) (take (whole tl c) (tl ++ c))) (writer (cur + whole tl c) (drop (whole tl c) (tl ++ c)))
+  unfolding append putBytes
+  append-ran cur tl c m e lt r z =
+      let wh : ℕ = whole tl c in
+      let f : Floored (g .granularity) (length (tl ++ c)) = floored (g .granularity) (length (tl ++ c)) in
+      let la : length (tl ++ c) ≡ length tl + length c = length-append tl c in
+      let lw : length (take wh (tl ++ c)) ≡ wh = simp length-take (omega arith) in
+      let n4 : length tl ≤ 4 = omega (arith, narrow) in
+      let ad : to .offset + H + cur ≡ to .offset + (H + cur) = omega arith in
+      let aq : q + (H + cur) ≡ q + H + cur = omega arith in
+      let even-at : (H + cur) % w ≡ 0 = even-add (g .granularity) H cur (l .header-even) z in
+      let fits : H + cur + alignOf w (length (take wh (tl ++ c))) ≤ sp = rw lw (omega (arith, l, f .even-units)) in
+      let st : write g (to .block) (to .offset + H + cur) (take wh (tl ++ c)) m ≡ ran (unitsOf w (q + H + cur) (take wh (tl ++ c))) tt =
+      ap (λ (i : ℕ). write g (to .block) i (take wh (tl ++ c)) m) ad ∙ put m (H + cur) (take wh (tl ++ c)) e even-at fits
+      ∙ ap (λ (i : ℕ). ran (unitsOf w i (take wh (tl ++ c))) tt) aq in
+      tested (λ i. appendable (writer cur tl) g (length i) (length c)) (putBytes g (writer cur tl) (wholeOf w (length (pendingOf (writer cur tl) c))) (pendingOf (writer cur tl) c)) m
+      (unitsOf w (q + H + cur) (take wh (tl ++ c))) (writer (cur + wh) (drop wh (tl ++ c))) (append-test cur tl c m e lt r)
+      (ap (λ (x : List ℕ). putBytes g (writer cur tl) (wholeOf w (length (x ++ c))) (x ++ c) m) (tail-held tl n4)
+      ∙ store-ran (write g (to .block) (to .offset + H + cur) (take wh (tl ++ c))) m (unitsOf w (q + H + cur) (take wh (tl ++ c))) (writer (cur + wh) (drop wh (tl ++ c))) st)
+
+  -- a turn's units and those of the later turns are those of one store
+  joined : (cur : ℕ) (tl c : List ℕ) (from n r : ℕ) → c ≡ part (address g b from) n img
+      → unitsOf w (q + H + cur) (take (whole tl c) (tl ++ c)) ++ unitsOf w (q + H + (cur + whole tl c)) (drop (whole tl c) (tl ++ c) ++ part (address g b (from + n)) r img)
+      ≡ unitsOf w (q + H + cur) (tl ++ part (address g b from) (n + r) img)
+  joined cur tl c from n r ec =
+      let wh : ℕ = whole tl c in
+      let A : ℕ = q + H + cur in
+      let f : Floored (g .granularity) (length (tl ++ c)) = floored (g .granularity) (length (tl ++ c)) in
+      let xs : List ℕ = take wh (tl ++ c) in
+      let y : List ℕ = part (address g b (from + n)) r img in
+      let ys : List ℕ = drop wh (tl ++ c) ++ y in
+      let lw : length xs ≡ wh / w * w = simp length-take (omega (arith, f .even-count)) in
+      let a1 : q + H + (cur + wh) ≡ A + wh / w * w = omega (arith, f .even-count) in
+      let a2 : address g b (from + n) ≡ address g b from + n = omega arith in
+      let z1 : xs ++ ys ≡ (tl ++ c) ++ y = sym (append-assoc xs (drop wh (tl ++ c)) y) ∙ ap (λ (r : List ℕ). r ++ y) (take-append-drop wh (tl ++ c)) in
+      let z2 : c ++ y ≡ part (address g b from) (n + r) img =
+      ap₂ (λ (x : List ℕ) (a : ℕ). x ++ part a r img) ec a2 ∙ sym (part-add (address g b from) n r img) in
+      ap (λ (a : ℕ). unitsOf w A xs ++ unitsOf w a ys) a1
+      ∙ sym (units-split w (l .pos) (wh / w) A xs ys lw)
+      ∙ ap (unitsOf w A) (z1 ∙ append-assoc tl c y ∙ ap (λ (r : List ℕ). tl ++ r) z2)
+
+  -- an image that has the original's bytes still
+  record Kept (m : List ℕ) : Type 0 where
+    length-kept : length m ≡ length img
+    bytes-kept : (j : ℕ) → p ≤ j → j < p + sp → getD m j 0 ≡ getD img j 0
+
+  kept-on : (a : ℕ) (bs m : List ℕ) → q ≤ a → a + unitsIn w (length bs) * w ≤ q + sp → Kept m → Kept (apply (unitsOf w a bs) m)
+  kept-on a bs m h1 h2 k =
+      record {
+        length-kept = length-apply (unitsOf w a bs) m ∙ k .length-kept;
+        bytes-kept = λ j x y. frame j 0 (unitsOf w a bs) m
+            (inside w (l .pos) a bs q (q + sp) j h1 h2 (far (g .granularity) (g .s) t p q (h .size) pay img (v .given) j x y))
+            ∙ k .bytes-kept j x y;
+      }
+
+  chunk-long : (from n : ℕ) (m : List ℕ) → from + n ≤ off + sp → Kept m → length (part (address g b from) n m) ≡ n
+  chunk-long from n m r kept = length-part (address g b from) n m (omega (arith, kept .length-kept, in-image))
+
+  chunk-same : (from n : ℕ) (m : List ℕ) → off ≤ from → from + n ≤ off + sp → Kept m → part (address g b from) n m ≡ part (address g b from) n img
+  chunk-same from n m h1 h2 kept =
+      part-same img m (kept .length-kept) (address g b from) n (omega (arith, in-image)) (λ j x y. kept .bytes-kept j (omega arith) (omega arith))
+
+  -- what the copying loop leaves: its units, and a writer whose tail completes the payload
+  record Copied (k cur : ℕ) (tl : List ℕ) (from rest : ℕ) (m : List ℕ) : Type 0 where
+    us : List FlashUnit
+    last-cur : ℕ
+    last-tl : List ℕ
+    ran-is : copying k g b from rest (writer cur tl) m ≡ ran us (writer last-cur last-tl)
+    units-are : us ++ unitsOf w (q + H + last-cur) last-tl ≡ unitsOf w (q + H + cur) (tl ++ part (address g b from) rest img)
+    total : last-cur + length last-tl ≡ length pay
+    on-word : last-cur % w ≡ 0
+    short : length last-tl < w
+
+  turn-total : (cur : ℕ) (tl : List ℕ) (rest n : ℕ) (c : List ℕ) → n ≡ min 16 rest → length c ≡ n → cur + length tl + rest ≡ length pay
+      → cur + whole tl c + length (drop (whole tl c) (tl ++ c)) + (rest - 16) ≡ length pay
+  turn-total cur tl rest n c hn lc e = simp length-drop (omega (arith, length-append tl c))
+
+  turn-kept : (cur : ℕ) (tl : List ℕ) (rest n : ℕ) (c m : List ℕ) → n ≤ rest → length c ≡ n → cur + length tl + rest ≡ length pay → Kept m
+      → Kept (apply (unitsOf w (q + H + cur) (take (whole tl c) (tl ++ c))) m)
+  turn-kept cur tl rest n c m hn lc e kept =
+      let lw : length (take (whole tl c) (tl ++ c)) ≡ whole tl c = simp length-take (omega arith) in
+      kept-on (q + H + cur) (take (whole tl c) (tl ++ c)) m (omega arith)
+      (rw lw (omega (arith, l, floored (g .granularity) (length (tl ++ c)) .even-units, length-append tl c))) kept
+
+  turn-short : (tl c : List ℕ) → length (drop (whole tl c) (tl ++ c)) < w
+  turn-short tl c = simp length-drop (floored (g .granularity) (length (tl ++ c)) .rest)
+
+  -- what is read from 16 on is what is read behind the chunk
+  rest-same : (from rest n : ℕ) → n ≡ min 16 rest → part (address g b (from + 16)) (rest - 16) img ≡ part (address g b (from + n)) (rest - n) img
+  rest-same from rest n hn = go (leb-is 16 rest)
+    where
+      go : (16 ≤ rest) ⊎ (rest < 16) → part (address g b (from + 16)) (rest - 16) img ≡ part (address g b (from + n)) (rest - n) img
+      go (inl x) = let e : 16 ≡ n = omega arith in ap (λ (i : ℕ). part (address g b (from + i)) (rest - i) img) e
+      go (inr x) =
+          let e : rest - 16 ≡ 0 = omega arith in
+          let f : rest - n ≡ 0 = omega arith in
+          ap (λ (i : ℕ). part (address g b (from + 16)) i img) e ∙ ap (λ (i : ℕ). part (address g b (from + n)) i img) (sym f)
+
+  turn-units : (cur : ℕ) (tl : List ℕ) (from rest n : ℕ) (c : List ℕ) → n ≡ min 16 rest → c ≡ part (address g b from) n img → (us last : List FlashUnit)
+      → us ++ last ≡ unitsOf w (q + H + (cur + whole tl c)) (drop (whole tl c) (tl ++ c) ++ part (address g b (from + 16)) (rest - 16) img)
+      → (unitsOf w (q + H + cur) (take (whole tl c) (tl ++ c)) ++ us) ++ last ≡ unitsOf w (q + H + cur) (tl ++ part (address g b from) rest img)
+  turn-units cur tl from rest n c hn ec us last e =
+      let en : n + (rest - n) ≡ rest = omega arith in
+      append-assoc (unitsOf w (q + H + cur) (take (whole tl c) (tl ++ c))) us last
+      ∙ ap (λ (x : List FlashUnit). unitsOf w (q + H + cur) (take (whole tl c) (tl ++ c)) ++ x)
+      (e ∙ ap (λ (x : List ℕ). unitsOf w (q + H + (cur + whole tl c)) (drop (whole tl c) (tl ++ c) ++ x)) (rest-same from rest n hn))
+      ∙ joined cur tl c from n (rest - n) ec
+      ∙ ap (λ (x : ℕ). unitsOf w (q + H + cur) (tl ++ part (address g b from) x img)) en
+
+  chunk-ran : (cur : ℕ) (tl : List ℕ) (from n : ℕ) (c m : List ℕ) → length m ≡ length img → from + n ≤ g .size → c ≡ part (address g b from) n m → length tl < w
+      → cur + length tl + length c ≤ length pay → cur % w ≡ 0
+      → chunk g b from n (writer cur tl) m ≡ ran (unitsOf w (q + H + cur) (take (whole tl c) (tl ++ c))) (writer (cur + whole tl c) (drop (whole tl c) (tl ++ c)))
+  unfolding chunk
+  chunk-ran cur tl from n c m e r hc lt hl z =
+      asked (readAt g b from n) (λ bs. append g (writer cur tl) bs) m (unitsOf w (q + H + cur) (take (whole tl c) (tl ++ c))) c (writer (cur + whole tl c) (drop (whole tl c) (tl ++ c)))
+      (read-yes g b from n m (still m e) (v .block) r ∙ ap done (sym hc)) (append-ran cur tl c m e lt hl z)
+
+  -- one turn, from what the later turns leave; the chunk and the count are variables here, so that nothing is written out
+  turn : (k cur : ℕ) (tl : List ℕ) (from rest : ℕ) (m : List ℕ) (n : ℕ) (c : List ℕ) → n ≡ min 16 rest → c ≡ part (address g b from) n m → c ≡ part (address g b from) n img
+      → length c ≡ n → length m ≡ length img → cur + length tl + rest ≡ length pay → cur % w ≡ 0 → length tl < w → from + n ≤ g .size
+      → Copied k (cur + whole tl c) (drop (whole tl c) (tl ++ c)) (from + 16) (rest - 16) (apply (unitsOf w (q + H + cur) (take (whole tl c) (tl ++ c))) m)
+      → Copied (suc k) cur tl from rest m
+  unfolding copying
+  turn k cur tl from rest m n c hn hc ec lc lm e z lt r ih =
+      record {
+        us = unitsOf w (q + H + cur) (take (whole tl c) (tl ++ c)) ++ ih .us;
+        last-cur = ih .last-cur;
+        last-tl = ih .last-tl;
+        ran-is =
+            ap (λ (x : ℕ). (chunk g b from x (writer cur tl) >>= λ y. copying k g b (from + 16) (rest - 16) y) m) (sym hn)
+            ∙ bind-ran (chunk g b from n (writer cur tl)) (λ y. copying k g b (from + 16) (rest - 16) y) m
+            (unitsOf w (q + H + cur) (take (whole tl c) (tl ++ c))) (ih .us) (writer (cur + whole tl c) (drop (whole tl c) (tl ++ c))) (writer (ih .last-cur) (ih .last-tl))
+            (chunk-ran cur tl from n c m lm r hc lt (omega arith) z) (ih .ran-is);
+        units-are = turn-units cur tl from rest n c hn ec (ih .us) (unitsOf w (q + H + ih .last-cur) (ih .last-tl)) (ih .units-are);
+        total = ih .total;
+        on-word = ih .on-word;
+        short = ih .short;
+      }
+
+  none-left : (cur : ℕ) (tl : List ℕ) (from rest : ℕ) (m : List ℕ) → rest ≡ 0 → cur + length tl + rest ≡ length pay → cur % w ≡ 0 → length tl < w → Copied zero cur tl from rest m
+  unfolding copying
+  none-left cur tl from rest m r e z lt =
+      record {
+        us = [];
+        last-cur = cur;
+        last-tl = tl;
+        ran-is = ask-ran (λ _. done (writer cur tl)) m (writer cur tl) refl;
+        units-are = rw (r, append-nil);
+        total = omega arith;
+        on-word = z;
+        short = lt;
+      }
+
+  loop : (k cur : ℕ) (tl : List ℕ) (from rest : ℕ) (m : List ℕ) → turnsOf rest ≡ k → cur + length tl + rest ≡ length pay → cur % w ≡ 0 → length tl < w
+      → off ≤ from → (0 < rest → from + rest ≤ off + sp) → Kept m → Copied k cur tl from rest m
+  loop zero cur tl from rest m hk e z lt h1 h2 kept = none-left cur tl from rest m (omega arith) e z lt
+  loop (suc k) cur tl from rest m hk e z lt h1 h2 kept =
+      let r : from + rest ≤ off + sp = h2 (omega arith) in
+      let c : List ℕ = part (address g b from) (min 16 rest) m in
+      let lc : length (part (address g b from) (min 16 rest) m) ≡ min 16 rest = chunk-long from (min 16 rest) m (omega arith) kept in
+      turn k cur tl from rest m (min 16 rest) c refl refl (chunk-same from (min 16 rest) m h1 (omega arith) kept) lc (kept .length-kept) e z lt (omega (arith, v .in-block))
+      (loop k (cur + whole tl c) (drop (whole tl c) (tl ++ c)) (from + 16) (rest - 16) (apply (unitsOf w (q + H + cur) (take (whole tl c) (tl ++ c))) m)
+      (omega arith)
+      (turn-total cur tl rest (min 16 rest) c refl lc e)
+      (even-add (g .granularity) cur (whole tl c) z (floored (g .granularity) (length (tl ++ c)) .even-mod))
+      (turn-short tl c)
+      (omega arith) (λ x. omega arith)
+      (turn-kept cur tl rest (min 16 rest) c m (omega arith) lc e kept))
+
+  -- ---- the held tail, the size, the mark
+
+  abbrev closing : List FlashUnit
+  closing = sizeUnits (g .granularity) (g .s) (length pay) q ++ markUnits (g .granularity) q
+
+  flush-ran : (cur : ℕ) (tl m : List ℕ) → length m ≡ length img → cur + length tl ≡ length pay → cur % w ≡ 0 → length tl < w
+      → flush g (writer cur tl) m ≡ ran (unitsOf w (q + H + cur) tl) (writer (cur + length tl) [])
+  unfolding flush
+  flush-ran cur [] m e total z lt =
+      ask-ran (λ _. done (writer (cur + 0) [])) m (writer (cur + 0) []) refl
+      ∙ ap (λ (us : List FlashUnit). ran us (writer (cur + 0) [])) (sym (none-stored w (l .pos) (q + H + cur)))
+  flush-ran cur (x ∷ xs) m e total z lt =
+      let n4 : length (x ∷ xs) ≤ 4 = omega (arith, narrow) in
+      let ad : to .offset + H + cur ≡ to .offset + (H + cur) = omega arith in
+      let aq : q + (H + cur) ≡ q + H + cur = omega arith in
+      let fits : H + cur + alignOf w (length (x ∷ xs)) ≤ sp =
+      subst (λ (n : ℕ). H + cur + alignOf w (length (x ∷ xs)) ≤ span (g .granularity) (g .s) n) total (tail-room (g .granularity) (g .s) cur (length (x ∷ xs)) z) in
+      let st : write g (to .block) (to .offset + H + cur) (take (length (x ∷ xs)) (tailOf (x ∷ xs))) m ≡ ran (unitsOf w (q + H + cur) (x ∷ xs)) tt =
+      ap₂ (λ (i : ℕ) (bs : List ℕ). write g (to .block) i bs m) ad (tail-held (x ∷ xs) n4)
+      ∙ put m (H + cur) (x ∷ xs) e (even-add (g .granularity) H cur (l .header-even) z) fits
+      ∙ ap (λ (i : ℕ). ran (unitsOf w i (x ∷ xs)) tt) aq in
+      let held : length (x ∷ xs) ≡ 0 → ⊥ = λ n. omega arith in
+      rw (ne-eqb (length (x ∷ xs)) 0 held)
+      (store-ran (write g (to .block) (to .offset + H + cur) (take (length (x ∷ xs)) (tailOf (x ∷ xs)))) m (unitsOf w (q + H + cur) (x ∷ xs)) (writer (cur + length (x ∷ xs)) []) st)
+
+  size-ran : (n : ℕ) (m : List ℕ) → length m ≡ length img → setPayloadSize g begun n m ≡ ran (unitsOf w (q + sizeAt gr) (bytes (g .s) n)) (withSize begun n)
+  unfolding setPayloadSize sizableOf
+  size-ran n m e =
+      tested (λ i. sizableOf g begun (length i)) (write g (to .block) (to .offset + sizeAt gr) (bytes (g .s) n) >> give (withSize begun n)) m
+      (unitsOf w (q + sizeAt gr) (bytes (g .s) n)) (withSize begun n)
+      (rw (admit-pass g (length m) (pick (eqb (unsetOf (g .s)) (unsetOf (g .s))) 0 4) (checkOf g (length m)) refl (still m e), eq-eqb (unsetOf (g .s)) (unsetOf (g .s)) refl))
+      (store-ran (write g (to .block) (to .offset + sizeAt gr) (bytes (g .s) n)) m (unitsOf w (q + sizeAt gr) (bytes (g .s) n)) (withSize begun n)
+      (put m (sizeAt gr) (bytes (g .s) n) e (l .size-even) (rw (length-bytes (g .s) n) (omega (arith, l)))))
+
+  mark-ran : (n : ℕ) (m : List ℕ) → length m ≡ length img → setState g (withSize begun n) Valid m ≡ ran (markUnits gr q) (headerOf (Allocated t Valid) n to)
+  unfolding setState marking
+  mark-ran n m e =
+      tested (λ i. checkOf g (length i)) (marking g (withSize begun n) t Valid) m (markUnits gr q) (headerOf (Allocated t Valid) n to) (still m e)
+      (store-ran (write g (to .block) (to .offset + finishAt gr) (finishMark gr ∷ [])) m (markUnits gr q) (headerOf (Allocated t Valid) n to)
+      (put m (finishAt gr) (finishMark gr ∷ []) e (l .finish-even) (omega (arith, l))))
+
+  delete-ran : (m : List ℕ) → length m ≡ length img → setState g h Deleted m ≡ ran (deleteUnits gr p) (headerOf (Allocated t Deleted) (h .size) (h .location))
+  unfolding setState marking
+  delete-ran m e =
+      ap (λ (st : CompositeObjectState). (test {W = flash} (λ i. checkOf g (length i)) >> stepTo g h Deleted st) m) (v .finished)
+      ∙ tested (λ i. checkOf g (length i)) (marking g h t Deleted) m (deleteUnits gr p) (headerOf (Allocated t Deleted) (h .size) (h .location)) (still m e)
+      (store-ran (write g b (off + deleteAt gr) (0 ∷ [])) m (deleteUnits gr p) (headerOf (Allocated t Deleted) (h .size) (h .location))
+      (put-original m (deleteAt gr) (0 ∷ []) e (l .delete-even) (omega (arith, l))))
+
+  -- the writer at last
+  abbrev closed : ObjectWriter
+  closed = withHeader (writer (length pay) []) copy
+
+  close-ran : (cur : ℕ) (tl m : List ℕ) → length m ≡ length img → cur + length tl ≡ length pay → cur % w ≡ 0 → length tl < w
+      → close g Valid (writer cur tl) m ≡ ran (unitsOf w (q + H + cur) tl ++ closing) closed
+  unfolding close
+  close-ran cur tl m e total z lt =
+      let u : List FlashUnit = unitsOf w (q + H + cur) tl in
+      let us : List FlashUnit = sizeUnits (g .granularity) (g .s) (length pay) q in
+      let e1 : length (apply u m) ≡ length img = length-apply u m ∙ e in
+      let e2 : length (apply us (apply u m)) ≡ length img = length-apply us (apply u m) ∙ e1 in
+      bind-ran (flush g (writer cur tl)) (λ x. setPayloadSize g (x .object) (x .cursor) >>= λ y. setState g y Valid >>= λ d. give (withHeader x d)) m
+      u closing (writer (length pay) []) closed
+      (flush-ran cur tl m e total z lt ∙ ap (λ (n : ℕ). ran u (writer n [])) total)
+      (bind-ran (setPayloadSize g begun (length pay)) (λ y. setState g y Valid >>= λ d. give (withHeader (writer (length pay) []) d)) (apply u m)
+      us (markUnits gr q) (withSize begun (length pay)) closed (size-ran (length pay) (apply u m) e1)
+      (bind-ran (setState g (withSize begun (length pay)) Valid) (λ d. give (withHeader (writer (length pay) []) d)) (apply us (apply u m))
+      (markUnits gr q) [] copy closed (mark-ran (length pay) (apply us (apply u m)) e2) (ask-ran (λ _. done closed) (apply (markUnits gr q) (apply us (apply u m))) closed refl)
+      ∙ ap (λ (x : List FlashUnit). ran x closed) (append-nil (markUnits gr q))))
+
+  finish-test : (cur : ℕ) (tl m : List ℕ) → length m ≡ length img → length tl < w → cur ≤ g .size → finishable (writer cur tl) g (length m) ≡ 0
+  unfolding finishable
+  finish-test cur tl m e lt c = rw (sound-ran cur tl m e lt c)
+
+  finalize-ran : (cur : ℕ) (tl m : List ℕ) → length m ≡ length img → cur + length tl ≡ length pay → cur % w ≡ 0 → length tl < w
+      → finalize g (writer cur tl) m ≡ ran (unitsOf w (q + H + cur) tl ++ closing) closed
+  unfolding finalize
+  finalize-ran cur tl m e total z lt =
+      tested (λ i. finishable (writer cur tl) g (length i)) (close g Valid (writer cur tl)) m (unitsOf w (q + H + cur) tl ++ closing) closed
+      (finish-test cur tl m e lt (omega (arith, l, v .in-block-to))) (close-ran cur tl m e total z lt)
+
+  -- ---- the whole
+
+  reader-ran : readerAt g (h .location) false img ≡ done (record { object = h; cursor = 0 })
+  unfolding readerAt
+  reader-ran = rw (v .just-read, v .finished)
+
+  source-ran : sourceAt g h img ≡ done (record { kind = t; size = length pay })
+  unfolding sourceAt
+  source-ran =
+      ap (λ (x : Answer ObjectReader). andThen x (λ r. sourceIn (h .state) (payloadOf (g .s) (r .object)))) reader-ran
+      ∙ ap₂ sourceIn (v .finished) (v .payload)
+
+  allocate-ran : allocate g to t img ≡ ran (typeUnits gr t q) (writer 0 [])
+  unfolding allocate allocatableOf
+  allocate-ran =
+      let ad : to .offset ≡ to .offset + 0 = omega arith in
+      let aq : q + 0 ≡ q = omega arith in
+      let st : write g (to .block) (to .offset) (typeByte t ∷ []) img ≡ ran (typeUnits gr t q) tt =
+      ap (λ (i : ℕ). write g (to .block) i (typeByte t ∷ []) img) ad ∙ put img 0 (typeByte t ∷ []) refl (zero-mod w) (omega (arith, l))
+      ∙ ap (λ (i : ℕ). ran (unitsOf w i (typeByte t ∷ [])) tt) aq in
+      asked (stateAt g to) (λ st. ask (λ _. allocatableOf t st) >> (write g (to .block) (to .offset) (typeByte t ∷ []) >> give (writer 0 []))) img (typeUnits gr t q) Free (writer 0 [])
+      (state-read g to img (v .fine) (v .block-to) (omega (arith, l, v .in-block-to)) ∙ copy-free gr (g .s) t p q (h .size) pay img (v .given))
+      (asked (λ _. allocatableOf t Free) (λ _. write g (to .block) (to .offset) (typeByte t ∷ []) >> give (writer 0 [])) img (typeUnits gr t q) tt (writer 0 []) refl
+      (store-ran (write g (to .block) (to .offset) (typeByte t ∷ [])) img (typeUnits gr t q) (writer 0 []) st))
+
+  first-kept : Kept (apply (typeUnits gr t q) img)
+  first-kept = kept-on q (typeByte t ∷ []) img (omega arith) (omega (arith, l)) (record { length-kept = refl; bytes-kept = λ j x y. refl })
+
+  copied-all : Copied (turnsOf (length pay)) 0 [] (off + H) (length pay) (apply (typeUnits gr t q) img)
+  copied-all =
+      loop (turnsOf (length pay)) 0 [] (off + H) (length pay) (apply (typeUnits gr t q) img) refl (omega arith) (zero-mod w) (omega (arith, l)) (omega arith) (λ x. omega (arith, l)) first-kept
+
+  -- payload as one store, then the size, then the mark
+  rest-ran : Copied (turnsOf (length pay)) 0 [] (off + H) (length pay) (apply (typeUnits gr t q) img)
+      → (copying (turnsOf (length pay)) g b (off + H) (length pay) (writer 0 []) >>= λ x. finalize g x >>= λ y. give (y .object)) (apply (typeUnits gr t q) img)
+      ≡ ran (payUnits gr (g .s) pay q ++ closing) copy
+  rest-ran x =
+      let m : List ℕ = apply (typeUnits gr t q) img in
+      let i : List ℕ = apply (x .us) (apply (typeUnits gr t q) img) in
+      let u : List FlashUnit = unitsOf w (q + H + x .last-cur) (x .last-tl) in
+      let e : length (apply (x .us) (apply (typeUnits gr t q) img)) ≡ length img = length-apply (x .us) m ∙ length-apply (typeUnits gr t q) img in
+      let a2 : q + H + 0 ≡ q + H = omega arith in
+      let a3 : address g b (off + H) ≡ p + H = omega arith in
+      let pays : part (address g b (off + H)) (length pay) img ≡ pay = ap (λ (a : ℕ). part a (length pay) img) a3 ∙ v .given .original .bytes-are in
+      bind-ran (copying (turnsOf (length pay)) g b (off + H) (length pay) (writer 0 [])) (λ x. finalize g x >>= λ y. give (y .object)) m
+      (x .us) (u ++ closing) (writer (x .last-cur) (x .last-tl)) copy (x .ran-is)
+      (bind-ran (finalize g (writer (x .last-cur) (x .last-tl))) (λ y. give (y .object)) i (u ++ closing) [] closed copy
+      (finalize-ran (x .last-cur) (x .last-tl) i e (x .total) (x .on-word) (x .short)) (ask-ran (λ _. done copy) (apply (u ++ closing) i) copy refl)
+      ∙ ap (λ (us : List FlashUnit). ran us copy) (append-nil (u ++ closing)))
+      ∙ ap (λ (us : List FlashUnit). ran us copy)
+      (sym (append-assoc (x .us) u closing) ∙ ap (λ (us : List FlashUnit). us ++ closing) (x .units-are ∙ ap₂ (unitsOf w) a2 pays))
+
+  -- all that a copy stores
+  abbrev pub copyUnits : List FlashUnit
+  copyUnits = typeUnits gr t q ++ (payUnits gr (g .s) pay q ++ closing)
+
+  pub copy-ran : copyObject g h to img ≡ ran copyUnits copy
+  unfolding copyObject
+  copy-ran =
+      asked (sourceAt g h) (λ src. allocate g to (src .kind) >>= λ x. copying (turnsOf (src .size)) g b (off + H) (src .size) x >>= λ y. finalize g y >>= λ z. give (z .object)) img
+      copyUnits (record { kind = t; size = length pay }) copy source-ran
+      (bind-ran (allocate g to t) (λ x. copying (turnsOf (length pay)) g b (off + H) (length pay) x >>= λ y. finalize g y >>= λ z. give (z .object)) img
+      (typeUnits gr t q) (payUnits gr (g .s) pay q ++ closing) (writer 0 []) copy allocate-ran (rest-ran copied-all))
+
+  pub move-ran : moveObject g h to img ≡ ran (moveUnits gr (g .s) t pay p q) copy
+  unfolding moveObject
+  move-ran =
+      let gone : ObjectHeader = headerOf (Allocated t Deleted) (h .size) (h .location) in
+      bind-ran (copyObject g h to) (λ new. setState g h Deleted >>= λ _. give new) img copyUnits (deleteUnits gr p) copy copy copy-ran
+      (bind-ran (setState g h Deleted) (λ _. give copy) (apply copyUnits img) (deleteUnits gr p) [] gone copy
+      (delete-ran (apply copyUnits img) (length-apply copyUnits img)) (ask-ran (λ _. done copy) (apply (deleteUnits gr p) (apply copyUnits img)) copy refl)
+      ∙ ap (λ (us : List FlashUnit). ran us copy) (append-nil (deleteUnits gr p)))
+      ∙ ap (λ (us : List FlashUnit). ran us copy) (simp append-assoc)

@@ -1,0 +1,132 @@
+-- What a move leaves when the power is cut after any number of programmed units.
+--
+-- "Take a finished object lying aligned and whole in its block, its header just read, and a destination span in one block, erased, aligned,
+-- large enough and apart from the object. With power throughout, the move is done. Cut the power after any number of programmed units while
+-- it is moved. Before the copy's finish mark is programmed, the original reads whole and the copy reads as free or unfinished. Between that
+-- mark and the original's delete mark, both read with equal type and payload. After that only the copy reads as finished, whole. No byte
+-- changes outside the destination span and the original's state mark."
+use mathlib.Core.Path.{_≡_}
+use mathlib.Core.Logic.{_⊎_, _≢_}
+use mathlib.Core.Bool.{false}
+use mathlib.Core.List.{List}
+use Prim.Native.Nat.{ℕ, _+_, _-_, _%_, _≤_, _<_, min}
+use lib.ListN.{length, getD}
+use Rattle.medium.specs.declared.granularity.Granularity.{Granularity}
+use Rattle.medium.specs.declared.geometry.Geometry.{Geometry}
+use Rattle.medium.specs.declared.fuse.Fuse.the-variants.{Absent, Units}
+use Rattle.medium.specs.Granularity.{widthOf, unitsIn, deleteAt}
+use Rattle.medium.specs.Geometry.{checkOf, address}
+use Rattle.medium.specs.Operation.{done, refused, End, run}
+use Rattle.medium.specs.Medium.{part}
+use Rattle.objects.specs.declared.types.ObjectType.{ObjectType}
+use Rattle.objects.specs.declared.state.ObjectDataState.the-variants.{Untrusted, Valid, Deleted}
+use Rattle.objects.specs.declared.state.CompositeObjectState.the-variants.{Allocated}
+use Rattle.objects.specs.declared.location.ObjectLocation.{ObjectLocation}
+use Rattle.objects.specs.declared.header.ObjectHeader.{ObjectHeader}
+use Rattle.objects.specs.declared.reader.ObjectReader.{ObjectReader}
+use Rattle.objects.specs.Header.{headerAt, payloadOf}
+use Rattle.objects.specs.Info.{found, none, infoAt, totalOf, spanOf}
+use Rattle.objects.specs.Reader.{readerAt, readSome}
+use Rattle.writer.specs.Moving.{payloadAt, moveObject}
+
+-- ---- how a place reads
+
+abbrev pub readerOf : ObjectHeader → ℕ → ObjectReader
+readerOf h cursor = record { object = h; cursor = cursor }
+
+-- a finished object reads whole: its header, its size, a reader of it, and each read of its payload, from any cursor into a buffer of any length
+pub record Whole (g : Geometry) (h : ObjectHeader) (t : ObjectType) (payload img : List ℕ) : Type 0 where
+  pub finished : h .state ≡ Allocated t Valid
+  pub header : headerAt g (h .location) img ≡ done h
+  pub info : infoAt g (h .location) img ≡ done (found h)
+  pub size : payloadOf (g .s) h ≡ length payload
+  pub reader : readerAt g (h .location) false img ≡ done (readerOf h 0)
+  pub reads : (cursor n : ℕ) → cursor ≤ length payload
+      → readSome g (readerOf h cursor) n img ≡ done (record { bytes = part cursor n payload; reader = readerOf h (cursor + min n (length payload - cursor)) })
+
+-- a place reads as free, or as an object of this type that is not finished, and no reader of it is given
+pub record Unfinished (g : Geometry) (at : ObjectLocation) (t : ObjectType) (img : List ℕ) : Type 0 where
+  pub size : ℕ
+  pub info : (infoAt g at img ≡ done none) ⊎ (infoAt g at img ≡ done (found (record { state = Allocated t Untrusted; size = size; location = at })))
+  pub reader : readerAt g at false img ≡ refused 2
+
+-- an object reads as deleted, and no reader of it is given
+pub record Gone (g : Geometry) (h : ObjectHeader) (t : ObjectType) (img : List ℕ) : Type 0 where
+  pub info : infoAt g (h .location) img ≡ done (found (record { state = Allocated t Deleted; size = h .size; location = h .location }))
+  pub reader : readerAt g (h .location) false img ≡ refused 2
+
+-- ---- where things are
+
+-- the address of an object's first byte in the image
+abbrev pub addressOf : Geometry → ObjectLocation → ℕ
+addressOf g at = address g (at .block) (at .offset)
+
+-- the payload that the image has for a header
+abbrev pub payloadIn : Geometry → ObjectHeader → List ℕ → List ℕ
+payloadIn g h img = part (address g (h .location .block) (payloadAt g h)) (payloadOf (g .s) h) img
+
+-- the header that the copy is to have
+abbrev pub copyOf : Geometry → ObjectHeader → ObjectLocation → ObjectHeader
+copyOf g h to = record { state = h .state; size = payloadOf (g .s) h; location = to }
+
+-- an index outside an interval
+abbrev pub Clear : ℕ → ℕ → ℕ → Type 0
+Clear from to j = (j < from) ⊎ (to ≤ j)
+
+-- ---- what is given
+
+pub record Movable (g : Geometry) (h : ObjectHeader) (to : ObjectLocation) (room : ℕ) (t : ObjectType) (img : List ℕ) : Type 0 where
+  -- a valid geometry and an image of its length, of bytes
+  pub fine : checkOf g (length img) ≡ 0
+  pub bytes : (j : ℕ) → getD img j 0 < 256
+  -- a finished object, its header just read, aligned and whole in its block
+  pub just-read : headerAt g (h .location) img ≡ done h
+  pub finished : h .state ≡ Allocated t Valid
+  pub aligned : h .location .offset % widthOf (g .granularity) ≡ 0
+  pub whole : h .location .offset + totalOf (g .granularity) (g .s) h ≤ g .size
+  -- a destination of `room` bytes in one block: erased, aligned, large enough and apart from the object
+  pub block : to .block < g .count
+  pub in-block : to .offset + room ≤ g .size
+  pub erased : (i : ℕ) → i < room → getD img (addressOf g to + i) 0 ≡ 255
+  pub aligned-to : to .offset % widthOf (g .granularity) ≡ 0
+  pub large : spanOf (g .granularity) (g .s) h ≤ room
+  pub apart : (addressOf g (h .location) + totalOf (g .granularity) (g .s) h ≤ addressOf g to) ⊎ (addressOf g to + room ≤ addressOf g (h .location))
+
+-- ---- what is left
+
+-- the units of type, payload and size: all that is stored before the copy's finish mark, which is one unit more, as is the delete mark
+abbrev pub unitsBefore : Granularity → ℕ → ℕ → ℕ
+unitsBefore k s n = 1 + unitsIn (widthOf k) n + unitsIn (widthOf k) s
+
+-- the same for the object of a header
+abbrev pub unitsTo : Geometry → ObjectHeader → ℕ
+unitsTo g h = unitsBefore (g .granularity) (g .s) (payloadOf (g .s) h)
+
+-- the image keeps its length, and each byte but the copy's span and the original's delete mark
+pub record Framed (g : Geometry) (h : ObjectHeader) (to : ObjectLocation) (img last : List ℕ) : Type 0 where
+  pub long : length last ≡ length img
+  pub elsewhere : (j : ℕ) → Clear (addressOf g to) (addressOf g to + spanOf (g .granularity) (g .s) h) j
+      → j ≢ addressOf g (h .location) + deleteAt (g .granularity) → getD last j 0 ≡ getD img j 0
+
+-- the end of a move that was given k units
+pub record Survives (g : Geometry) (h : ObjectHeader) (to : ObjectLocation) (t : ObjectType) (payload img : List ℕ) (k : ℕ) (e : End ObjectHeader) : Type 0 where
+  pub before-mark : k ≤ unitsTo g h → Whole g h t payload (e .state) × Unfinished g to t (e .state)
+  pub between-marks : k ≡ unitsTo g h + 1 → Whole g h t payload (e .state) × Whole g (copyOf g h to) t payload (e .state)
+  pub after-marks : unitsTo g h + 2 ≤ k → Gone g h t (e .state) × Whole g (copyOf g h to) t payload (e .state)
+  pub framed : Framed g h to img (e .state)
+  pub lost : k < unitsTo g h + 2 → (e .answer ≡ refused 8) × (e .fuse ≡ Units 0)
+  pub moved : unitsTo g h + 2 ≤ k → (e .answer ≡ done (copyOf g h to)) × (e .fuse ≡ Units (k - (unitsTo g h + 2)))
+
+-- the end of a move with power throughout
+pub record Moved (g : Geometry) (h : ObjectHeader) (to : ObjectLocation) (t : ObjectType) (payload img : List ℕ) (e : End ObjectHeader) : Type 0 where
+  pub moved : e .answer ≡ done (copyOf g h to)
+  pub no-fuse : e .fuse ≡ Absent
+  pub original : Gone g h t (e .state)
+  pub copy : Whole g (copyOf g h to) t payload (e .state)
+  pub framed : Framed g h to img (e .state)
+
+-- THE DEMAND: for every geometry, object, destination, image and fuse
+unfoldable pub Demand : Type 0
+Demand =
+    (g : Geometry) (h : ObjectHeader) (to : ObjectLocation) (room : ℕ) (t : ObjectType) (img : List ℕ) → Movable g h to room t img
+    → Moved g h to t (payloadIn g h img) img (run Absent (moveObject g h to) img) × ((k : ℕ) → Survives g h to t (payloadIn g h img) img k (run (Units k) (moveObject g h to) img))

@@ -1,0 +1,5 @@
+pub mod Demand
+pub mod Stores
+pub mod Answers
+pub mod Listed
+pub mod Call

@@ -1,0 +1,223 @@
+-- A write's two stores, the tail's word and then the other words, are the one store of them all: unit for unit, refusals included.
+use mathlib.Core.Path.{_≡_, refl, sym, ap, ap₂, _∙_}
+use mathlib.Core.Bool.{Bool, true, false, _&&_, and-true}
+use mathlib.Core.List.{List, [], _++_, append-assoc}
+use Prim.Native.Nat.{ℕ, _+_, _-_, _*_, _/_, _%_, _≤_, _<_}
+use native.Mathlib.Nat.{mod-lt, div-add-mod', mod-le, mod-self, mod-eq-of-lt, add-mod-left, one-mul, add-assoc, add-mul, add-mul-mod-self-right}
+use native.Mathlib.Omega.{arith}
+use lib.ListN.{length, take, drop, length-append, length-drop, take-append-drop}
+use lib.Seq.{take-length, take-append-add, drop-append-add, drop-length, length-take-le}
+use lib.Dec.{ltb, eqb}
+use borrow.Author.Tests.{le-leb}
+use Rattle.medium.specs.declared.geometry.Geometry.{Geometry}
+use Rattle.medium.specs.declared.fuse.Fuse.{Fuse}
+use Rattle.medium.specs.Granularity.{pick, unitsIn, alignOf}
+use Rattle.medium.specs.Geometry.{admit, address}
+use Rattle.medium.specs.Units.{FlashUnit, unitsOf}
+use Rattle.medium.specs.Operation.{World, flash, happen, apply, Answer, done, refused, Run, OpIn, Op, follow, _>>=_, ask, give, refuse, putting, cut, run}
+use Rattle.medium.specs.Medium.{writable, write}
+use Rattle.medium.proofs.Runs.{happen-append}
+use Rattle.medium.proofs.Bytes.{length-apply}
+use Rattle.medium.proofs.Places.{width-is}
+use Rattle.medium.proofs.Split.{units-split, units-even, units-more}
+use Rattle.writer.specs.declared.writer.ObjectWriter.{ObjectWriter}
+use Rattle.writer.specs.Writer.{dataAt, wholeOf, tailOf, heldBack, putBytes, pendingOf}
+use Rattle.writer.specs.Steps.{storeWords}
+use Rattle.writer.proofs.Laws.{width}
+
+-- ---- sequences
+
+pub bind-same : {W : World} {A B : Type 0} (o : OpIn W A) (p q : A → OpIn W B) (s : W .State) → ((a : A) (t : W .State) → p a t ≡ q a t) → (o >>= p) s ≡ (o >>= q) s
+unfolding _>>=_
+bind-same {W} {A} {B} o p q s h = go (o s .answer)
+  where
+    go : (a : Answer A) → follow {W = W} (o s .events) a p s ≡ follow (o s .events) a q s
+    go (done a) = ap (λ (r : Run W B). record { events = o s .events ++ r .events; answer = r .answer }) (h a (happen W (o s .events) s))
+    go (refused n) = refl
+
+pub bind-assoc : {W : World} {A B C : Type 0} (o : OpIn W A) (p : A → OpIn W B) (q : B → OpIn W C) (s : W .State) → ((o >>= p) >>= q) s ≡ (o >>= λ a. p a >>= q) s
+unfolding _>>=_
+bind-assoc {W} {A} {B} {C} o p q s = go (o s .answer)
+  where
+    more : (a : A) (b : Answer B) → (p a (happen W (o s .events) s)) .answer ≡ b
+        → follow {W = W} (o s .events ++ (p a (happen W (o s .events) s)) .events) b q s
+        ≡ record { events = o s .events ++ (follow {W = W} ((p a (happen W (o s .events) s)) .events) b q (happen W (o s .events) s)) .events; answer = (follow {W = W} ((p a (happen W (o s .events) s)) .events) b q (happen W (o s .events) s)) .answer }
+    more a (done b) e = rw (happen-append W (o s .events) ((p a (happen W (o s .events) s)) .events) s, append-assoc)
+    more a (refused n) e = refl
+
+    go : (a : Answer A)
+        → follow {W = W} ((follow {W = W} (o s .events) a p s) .events) ((follow {W = W} (o s .events) a p s) .answer) q s
+        ≡ follow {W = W} (o s .events) a (λ x t. follow {W = W} ((p x t) .events) ((p x t) .answer) q t) s
+    go (done a) = more a ((p a (happen W (o s .events) s)) .answer) refl
+    go (refused n) = refl
+
+pub give-bind : {W : World} {A B : Type 0} (a : A) (p : A → OpIn W B) (s : W .State) → (give a >>= p) s ≡ p a s
+unfolding _>>=_ ask
+give-bind a p s = refl
+
+pub bind-first : {W : World} {A B : Type 0} (o p : OpIn W A) (q : A → OpIn W B) (s : W .State) → o s ≡ p s → (o >>= q) s ≡ (p >>= q) s
+unfolding _>>=_
+bind-first {W} {A} o p q s e = ap (λ (r : Run W A). follow {W = W} (r .events) (r .answer) q s) e
+
+-- ---- one store in two
+
+-- the tests of a store that ends within the block
+abbrev placed : Geometry → ℕ → ℕ → ℕ → ℕ
+placed g room b o = admit g room (pick (ltb b (g .count) && eqb (o % width g) 0) 0 3)
+
+placed-is : (g : Geometry) (room b o n : ℕ) → o + alignOf (width g) n ≤ g .size → writable g room b o n ≡ placed g room b o
+unfolding writable
+placed-is g room b o n h = rw (le-leb _ _ h, and-true)
+
+-- a store that its tests let pass, or refuse with P
+write-is : (g : Geometry) (b o P : ℕ) (bs img : List ℕ) (t : Bool) → writable g (length img) b o (length bs) ≡ P → eqb P 0 ≡ t
+    → write g b o bs img ≡ pick {A = Op (Unit {0})} t (putting (unitsOf (width g) (address g b o) bs) tt) (refuse P) img
+unfolding write
+write-is g b o P bs img true e q = rw (e, q)
+write-is g b o P bs img false e q = rw (e, q)
+
+write-split : (g : Geometry) (b o m : ℕ) (xs ys img : List ℕ) → length xs ≡ m * width g
+    → o + (length xs + alignOf (width g) (length ys)) ≤ g .size
+    → write g b o (xs ++ ys) img ≡ (write g b o xs >>= λ _. write g b (o + m * width g) ys) img
+unfolding _>>=_ ask putting
+write-split g b o m xs ys img e h = go (eqb (placed g (length img) b o) 0) refl
+  where
+    hk : 0 < width g
+    hk = width-is (g .granularity) .0
+
+    whole : alignOf (width g) (length (xs ++ ys)) ≡ length xs + alignOf (width g) (length ys)
+    whole =
+        ap (alignOf (width g)) (length-append xs ys ∙ ap (λ (n : ℕ). n + length ys) e)
+        ∙ ap (λ (n : ℕ). n * width g) (units-more (width g) hk m (length ys))
+        ∙ add-mul m (unitsIn (width g) (length ys)) (width g)
+        ∙ ap (λ (n : ℕ). n + alignOf (width g) (length ys)) (sym e)
+
+    first : alignOf (width g) (length xs) ≡ length xs
+    first = ap (alignOf (width g)) e ∙ ap (λ (n : ℕ). n * width g) (units-even (width g) hk m) ∙ sym e
+
+    us : List FlashUnit
+    us = unitsOf (width g) (address g b o) xs
+
+    vs : List FlashUnit
+    vs = unitsOf (width g) (address g b (o + m * width g)) ys
+
+    both : unitsOf (width g) (address g b o) (xs ++ ys) ≡ us ++ vs
+    both =
+        units-split (width g) hk m (address g b o) xs ys e
+        ∙ ap (λ (a : ℕ). unitsOf (width g) (address g b o) xs ++ unitsOf (width g) a ys) (add-assoc (b * g .size) o (m * width g))
+
+    a₁ : writable g (length img) b o (length (xs ++ ys)) ≡ placed g (length img) b o
+    a₁ = placed-is g (length img) b o (length (xs ++ ys)) (rw whole h)
+
+    a₂ : writable g (length img) b o (length xs) ≡ placed g (length img) b o
+    a₂ = placed-is g (length img) b o (length xs) (rw first (omega arith))
+
+    a₃ : writable g (length (apply us img)) b (o + m * width g) (length ys) ≡ placed g (length img) b o
+    a₃ =
+        placed-is g (length (apply us img)) b (o + m * width g) (length ys) (omega arith)
+        ∙ rw (length-apply us img, add-mul-mod-self-right o m (width g))
+
+    go : (t : Bool) → eqb (placed g (length img) b o) 0 ≡ t → write g b o (xs ++ ys) img ≡ (write g b o xs >>= λ _. write g b (o + m * width g) ys) img
+    go true q =
+        write-is g b o (placed g (length img) b o) (xs ++ ys) img true a₁ q
+        ∙ rw (write-is g b o (placed g (length img) b o) xs img true a₂ q, write-is g b (o + m * width g) (placed g (length img) b o) ys (apply us img) true a₃ q, both)
+    go false q =
+        write-is g b o (placed g (length img) b o) (xs ++ ys) img false a₁ q
+        ∙ rw (write-is g b o (placed g (length img) b o) xs img false a₂ q)
+
+-- ---- whole words
+
+pub whole-le : (k n : ℕ) → wholeOf k n ≤ n
+whole-le k n = omega arith
+
+pub whole-none : (k n : ℕ) → n < k → wholeOf k n ≡ 0
+whole-none k n h = omega (arith, mod-eq-of-lt h)
+
+whole-one : (k : ℕ) → wholeOf k k ≡ k
+whole-one k = omega (arith, mod-self k)
+
+whole-more : (k n : ℕ) → wholeOf k (k + n) ≡ k + wholeOf k n
+whole-more k n = omega (arith, add-mod-left k n, mod-le n k)
+
+-- fewer than a word are left over
+pub rest-few : (k n : ℕ) → 0 < k → n - wholeOf k n < k
+rest-few k n h = omega (arith, mod-lt n h, mod-le n k)
+
+pub whole-even : (k n : ℕ) → wholeOf k n ≡ n / k * k
+whole-even k n = omega (arith, div-add-mod' n k)
+
+whole-align : (k : ℕ) → 0 < k → (n : ℕ) → alignOf k (wholeOf k n) ≡ wholeOf k n
+whole-align k h n = ap (alignOf k) (whole-even k n) ∙ ap (λ (m : ℕ). m * k) (units-even k h (n / k)) ∙ sym (whole-even k n)
+
+-- ---- THE LAW: a word and then more is all of it
+
+module _ (g : Geometry) (w : ObjectWriter) (xs ys : List ℕ) (e : length xs ≡ width g) where
+  all-whole : wholeOf (width g) (length (xs ++ ys)) ≡ length xs + wholeOf (width g) (length ys)
+  all-whole =
+      ap (wholeOf (width g)) (length-append xs ys ∙ ap (λ (n : ℕ). n + length ys) e)
+      ∙ whole-more (width g) (length ys)
+      ∙ ap (λ (n : ℕ). n + wholeOf (width g) (length ys)) (sym e)
+
+  pub store-join : (img : List ℕ) → dataAt g w + (length xs + length ys) ≤ g .size → storeWords g w (xs ++ ys) img ≡ (storeWords g w xs >>= λ v. storeWords g v ys) img
+  unfolding putBytes
+  store-join img h =
+      let one : wholeOf (width g) (length xs) ≡ length xs = ap (wholeOf (width g)) e ∙ whole-one (width g) ∙ sym e in
+      rw (all-whole, take-append-add xs ys, drop-append-add xs ys, one, take-length xs, drop-length xs)
+      (bind-first (write g b o (xs ++ zs)) (write g b o xs >>= λ _. write g b (o + 1 * width g) zs) (λ _. give (heldBack w (length xs + m) rest)) img
+      (write-split g b o 1 xs zs img (e ∙ sym (one-mul (width g))) fits)
+      ∙ bind-assoc (write g b o xs) (λ _. write g b (o + 1 * width g) zs) (λ _. give (heldBack w (length xs + m) rest)) img
+      ∙ bind-same (write g b o xs) (λ _. write g b (o + 1 * width g) zs >>= λ _. give (heldBack w (length xs + m) rest)) (λ _. give v >>= λ v. storeWords g v ys) img (λ _ t. second t)
+      ∙ sym (bind-assoc (write g b o xs) (λ _. give v) (λ v. storeWords g v ys) img))
+    where
+      b : ℕ
+      b = w .object .location .block
+
+      o : ℕ
+      o = dataAt g w
+
+      m : ℕ
+      m = wholeOf (width g) (length ys)
+
+      zs : List ℕ
+      zs = take m ys
+
+      rest : List ℕ
+      rest = drop m ys
+
+      v : ObjectWriter
+      v = heldBack w (length xs) []
+
+      fits : o + (length xs + alignOf (width g) (length zs)) ≤ g .size
+      fits =
+          let l : length zs ≡ wholeOf (width g) (length ys) = length-take-le (wholeOf (width g) (length ys)) ys (whole-le (width g) (length ys)) in
+          let a : alignOf (width g) (length zs) ≡ wholeOf (width g) (length ys) =
+          ap (alignOf (width g)) l ∙ whole-align (width g) (width-is (g .granularity) .0) (length ys) in
+          rw a (omega (arith, whole-le (width g) (length ys)))
+
+      second : (t : List ℕ) → (write g b (o + 1 * width g) zs >>= λ _. give (heldBack w (length xs + m) rest)) t ≡ (give v >>= λ v. storeWords g v ys) t
+      second t =
+          let p : o + 1 * width g ≡ dataAt g v = omega arith in
+          let q : w .cursor + (length xs + m) ≡ w .cursor + length xs + m = omega arith in
+          ap₂ (λ (x c : ℕ). (write g b x zs >>= λ _. give (record { object = w .object; cursor = c; tail = tailOf rest; held = length rest; spent = w .spent })) t) p q
+          ∙ sym (give-bind v (λ v. storeWords g v ys) t)
+
+-- ---- the same for a writer: what it holds and the new bytes
+
+pub pending-none : (w : ObjectWriter) (src : List ℕ) → w .held ≡ 0 → pendingOf w src ≡ src
+pending-none w src e = rw e
+
+pub pending-length : (w : ObjectWriter) (src : List ℕ) → w .held ≤ length (w .tail) → length (pendingOf w src) ≡ w .held + length src
+pending-length w src h = length-append (take (w .held) (w .tail)) src ∙ ap (λ (n : ℕ). n + length src) (length-take-le (w .held) (w .tail) h)
+
+-- a tail that src fills up, and then the rest of src
+pub pending-join : (g : Geometry) (w : ObjectWriter) (src : List ℕ) (n : ℕ) (f : Fuse) (img : List ℕ) → w .held ≤ length (w .tail)
+    → w .held + n ≡ width g → n ≤ length src → dataAt g w + w .held + length src ≤ g .size
+    → run f (storeWords g w (pendingOf w src)) img ≡ run f (storeWords g w (pendingOf w (take n src)) >>= λ v. storeWords g v (drop n src)) img
+unfolding run
+pending-join g w src n f img h k l fits =
+    let e : length (pendingOf w (take n src)) ≡ width g = pending-length w (take n src) h ∙ ap (λ (m : ℕ). w .held + m) (length-take-le n src l) ∙ k in
+    let p : pendingOf w src ≡ pendingOf w (take n src) ++ drop n src =
+    ap (λ (bs : List ℕ). take (w .held) (w .tail) ++ bs) (sym (take-append-drop n src)) ∙ sym (append-assoc (take (w .held) (w .tail)) (take n src) (drop n src)) in
+    let d : length (drop n src) ≡ length src - n = length-drop n src in
+    ap (λ (r : Run flash ObjectWriter). cut f r img)
+    (ap (λ (bs : List ℕ). storeWords g w bs img) p ∙ store-join g w (pendingOf w (take n src)) (drop n src) e img (omega arith))

@@ -1,0 +1,66 @@
+use mathlib.Core.Path.{refl, sym, _∙_}
+use native.Mathlib.Omega.{arith}
+use Rattle.medium.proofs.Places.{width-is}
+use Rattle.medium.proofs.Runs.{test-on, test-stop}
+use Rattle.writer.specs.Writer.{delete}
+use Rattle.writer.proofs.Laws.{sound-is}
+use borrow.Author.Needs.{needs}
+use Rattle.writer.proofs.writer.ObjectWriter.delete.Statement.{statement}
+use Rattle.writer.proofs.writer.ObjectWriter.delete.Tie as tie
+use Rattle.writer.proofs.writer.ObjectWriter.delete.Reads as reads
+use Rattle.writer.proofs.writer.ObjectWriter.delete.Lts as lts
+use Rattle.writer.proofs.writer.ObjectWriter.back.Reads as back-reads
+use Rattle.writer.proofs.writer.ObjectWriter.deleting.Reads as deleting-reads
+use Rattle.writer.proofs.writer.ObjectWriter.sound.Reads as sound-reads
+
+sound-requires : tie.Need-sound-requires
+sound-requires c κs = search needs
+
+back-requires : tie.Need-back-requires
+back-requires c κs = search needs
+
+returns : tie.Need-returns
+unfolding delete
+returns c = rw (c .back .ensures) (sym (test-stop _ _ _ _ _ (c .before .before .sound .ensures) (c .before .if1 .taken)), refl)
+
+deleting-requires : tie.Need-deleting-requires
+deleting-requires c κs = let v = sound-is (c .before .before .before .before .args .self) (c .before .before .before .before .args .g) _ _ (c .before .before .sound .ensures) (c .before .if1 .left) in (v .possible .cursor, omega (arith, v .possible .held, width-is (c .before .before .before .before .args .g .granularity)))
+
+enum-told : tie.Need-enum-told
+enum-told c = search needs
+
+enum-told-2 : tie.Need-enum-told-2
+enum-told-2 c = search needs
+
+back-requires-2 : tie.Need-back-requires-2
+back-requires-2 c κs = search needs
+
+same-length : tie.Need-same-length
+same-length c = search needs
+
+returns-2 : tie.Need-returns-2
+unfolding delete
+returns-2 c = rw (c .back2 .ensures, c .before .enum-told2 .given .1) ((rw (c .before .enum-told2 .given .1) at (c .before .before .before .before .before .deleting .ensures)) ∙ sym (test-on _ _ _ _ _ (c .before .before .before .before .before .before .before .before .sound .ensures) (c .before .before .before .before .before .before .before .if1 .left)), refl)
+
+same-length-2 : tie.Need-same-length-2
+same-length-2 c = search needs
+
+returns-3 : tie.Need-returns-3
+unfolding delete
+returns-3 c = (c .before .before .before .before .deleting .ensures ∙ sym (test-on _ _ _ _ _ (c .before .before .before .before .before .before .before .sound .ensures) (c .before .before .before .before .before .before .if1 .left)), rw (c .enum-told .given .1))
+
+pub delete-spec : {M : Type 1} → statement M
+delete-spec =
+    tie.close
+    (tie.spec
+    sound-requires
+    back-requires
+    returns
+    deleting-requires
+    enum-told
+    enum-told-2
+    back-requires-2
+    same-length
+    returns-2
+    same-length-2
+    returns-3)

@@ -1,0 +1,67 @@
+use native.Mathlib.Omega.{arith}
+use borrow.Author.Tests.{eq-eqb, ne-eqb, le-leb, lt-leb}
+use Rattle.medium.proofs.Places.{width-is}
+use Rattle.writer.specs.Writer.{appendable}
+use Rattle.writer.proofs.Laws.{sound-is}
+use borrow.Author.Needs.{needs}
+use Rattle.writer.proofs.writer.ObjectWriter.may_append.Statement.{statement}
+use Rattle.writer.proofs.writer.ObjectWriter.may_append.Tie as tie
+use Rattle.writer.proofs.writer.ObjectWriter.may_append.Reads as reads
+use Rattle.writer.proofs.writer.ObjectWriter.may_append.Lts as lts
+use Rattle.objects.proofs.state.CompositeObjectState.rank.Reads as rank-reads
+use Rattle.writer.proofs.writer.ObjectWriter.data_at.Reads as data-at-reads
+use Rattle.writer.proofs.writer.ObjectWriter.sound.Reads as sound-reads
+
+sound-requires : tie.Need-sound-requires
+sound-requires c κs = search needs
+
+returns : tie.Need-returns
+unfolding appendable
+returns c = rw (← c .before .sound .ensures, ne-eqb _ _ (c .if1 .taken))
+
+rank-requires : tie.Need-rank-requires
+rank-requires c κs = search needs
+
+returns-2 : tie.Need-returns-2
+unfolding appendable
+returns-2 c = rw (← c .before .before .before .before .sound .ensures, eq-eqb _ _ (c .before .before .before .if1 .left), ← c .before .rank .ensures, ne-eqb _ _ (c .if2 .taken))
+
+data-at-requires : tie.Need-data-at-requires
+data-at-requires c κs = let s = sound-is (c .before .before .before .before .before .args .self) (c .before .before .before .before .before .args .g) _ _ (c .before .before .before .before .sound .ensures) (c .before .before .before .if1 .left) in omega (arith, s .possible .cursor)
+
+add-at : tie.Need-add-at
+add-at c = let s = sound-is (c .before .before .before .before .before .before .before .args .self) (c .before .before .before .before .before .before .before .args .g) _ _ (c .before .before .before .before .before .before .sound .ensures) (c .before .before .before .before .before .if1 .left) in omega (arith, s .possible .held, width-is (c .before .before .before .before .before .before .before .args .g .granularity), c .before .data-at .ensures .1)
+
+cast-size : tie.Need-cast-size
+cast-size c = search needs
+
+returns-3 : tie.Need-returns-3
+unfolding appendable
+returns-3 c = rw (← c .before .before .before .before .before .before .before .before .sound .ensures, eq-eqb _ _ (c .before .before .before .before .before .before .before .if1 .left), ← c .before .before .before .before .before .rank .ensures, eq-eqb _ _ (c .before .before .before .before .if2 .left), lt-leb _ _ (rw (c .before .before .before .data-at .ensures .0) at (c .if3 .taken)))
+
+add-if4 : tie.Need-add-if4
+add-if4 c = search needs
+
+returns-4 : tie.Need-returns-4
+unfolding appendable
+returns-4 c = rw (← c .before .before .before .before .before .before .before .before .before .sound .ensures, eq-eqb _ _ (c .before .before .before .before .before .before .before .before .if1 .left), ← c .before .before .before .before .before .before .rank .ensures, eq-eqb _ _ (c .before .before .before .before .before .if2 .left), le-leb _ _ (rw (c .before .before .before .before .data-at .ensures .0) at (c .before .if3 .left)), lt-leb _ _ (rw (c .before .before .before .before .data-at .ensures .0) at (c .if4 .taken)))
+
+returns-5 : tie.Need-returns-5
+unfolding appendable
+returns-5 c = rw (← c .before .before .before .before .before .before .before .before .before .sound .ensures, eq-eqb _ _ (c .before .before .before .before .before .before .before .before .if1 .left), ← c .before .before .before .before .before .before .rank .ensures, eq-eqb _ _ (c .before .before .before .before .before .if2 .left), le-leb _ _ (rw (c .before .before .before .before .data-at .ensures .0) at (c .before .if3 .left)), le-leb _ _ (rw (c .before .before .before .before .data-at .ensures .0) at (c .if4 .left)))
+
+pub may-append-spec : {M : Type 1} → statement M
+may-append-spec =
+    tie.close
+    (tie.spec
+    sound-requires
+    returns
+    rank-requires
+    returns-2
+    data-at-requires
+    add-at
+    cast-size
+    returns-3
+    add-if4
+    returns-4
+    returns-5)

@@ -1,0 +1,4 @@
+pub mod Writer
+pub mod Moving
+pub mod Steps
+pub mod Units

@@ -1,0 +1,35 @@
+-- How the code goes about a write: it stores the whole words of the bytes that it is given and holds the rest; a tail that is held is filled
+-- up to a word first. And the tests that several calls begin with.
+use Prim.Native.Nat.{ℕ, _≤_}
+use mathlib.Core.List.{List}
+use lib.ListN.{length}
+use lib.Dec.{eqb}
+use Rattle.medium.specs.declared.geometry.Geometry.{Geometry}
+use Rattle.medium.specs.Granularity.{pick, widthOf}
+use Rattle.medium.specs.Geometry.{fitOf}
+use Rattle.medium.specs.Operation.{Op, _>>=_, give}
+use Rattle.objects.specs.declared.state.ObjectDataState.{ObjectDataState}
+use Rattle.objects.specs.Header.{setState}
+use Rattle.writer.specs.declared.writer.ObjectWriter.{ObjectWriter}
+use Rattle.writer.specs.declared.moving.SourceRead.{SourceRead}
+use Rattle.writer.specs.declared.moving.SourceRead.the-variants as source
+use Rattle.writer.specs.Writer.{withHeader, possible, wholeOf, putBytes}
+
+-- the whole words of the bytes are stored, whatever is held, and the rest is held
+abbrev pub storeWords : Geometry → ObjectWriter → List ℕ → Op ObjectWriter
+storeWords g w bs = putBytes g w (wholeOf (widthOf (g .granularity)) (length bs)) bs
+
+-- 6, then 4 for an impossible writer, or 0
+abbrev pub usableOf : ObjectWriter → Geometry → ℕ
+usableOf w g = pick (eqb (fitOf g) 0) (possible g w) (fitOf g)
+
+-- a writer whose header gets the mark of a state
+abbrev pub marked : Geometry → ObjectDataState → ObjectWriter → Op ObjectWriter
+marked g to w = do
+  h ← setState g (w .object) to
+  give (withHeader w h)
+
+-- a source is no longer than a size field can say
+abbrev pub smallSource : SourceRead → Type 0
+smallSource (source.Got s) = s .size ≤ 4294967295
+smallSource (source.Refused n) = Unit {0}

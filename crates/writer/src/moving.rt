@@ -1,0 +1,240 @@
+// Copying an object to another place, and moving it there.
+use crate::writer::ObjectWriter;
+use crate::writer::Writing;
+use medium::fuse::Answered;
+use medium::fuse::Fuse;
+use medium::fuse::Stored;
+use medium::geometry::Geometry;
+use objects::header::Headed;
+use objects::header::ObjectHeader;
+use objects::location::ObjectLocation;
+use objects::reader::ObjectReader;
+use objects::reader::ReaderRead;
+use objects::state::CompositeObjectState;
+use objects::state::ObjectDataState;
+use objects::types::ObjectType;
+ghost use mathlib.Core.Path.{_≡_};
+ghost use Prim.Native.Nat.{_+_, _≤_, _<_, _^_, min};
+ghost use lib.ListN.{length};
+ghost use Rattle.medium.specs.Operation.{run, endedBy, unlessStored};
+ghost use Rattle.writer.specs.Moving.{sourceAnswer, sourceNumber, sourceAt, payloadAt, chunk, turnsOf, copying, copyObject, moveObject};
+ghost use Rattle.writer.specs.Steps.{smallSource};
+
+// What is to be copied.
+pub struct Source {
+    pub kind: ObjectType,
+    pub size: usize,
+}
+
+pub enum SourceRead {
+    Got(Source),
+    Refused(u8),
+}
+
+impl SourceRead {
+    pub fn number(self) -> u8
+        ensures { λ r. ⌜ r ≡ sourceNumber self ⌝ }
+    {
+        match self {
+            SourceRead::Got(_) => 0,
+            SourceRead::Refused(k) => k,
+        }
+    }
+}
+
+// The object anew at another place, of the type that h says. After a refusal h comes back.
+pub fn copy_object(
+    g: Geometry,
+    image: &mut [u8],
+    f: Fuse,
+    h: ObjectHeader,
+    to: ObjectLocation,
+) -> Headed
+    ensures { λ r. ⌜ endedBy (r .answer) (r .header) (now (image .exit)) ≡ run f (copyObject g h to) (now (image .entry)) ⌝ }
+    ensures { λ r. ⌜ r .header ≡ unlessStored (r .answer) h (r .header) ⌝ }
+{
+    let got = find_source(g, image, h);
+    let SourceRead::Got(src) = got else {
+        return Headed {
+            answer: Stored::Refused(got.number(), f),
+            header: h,
+        };
+    };
+    let t = src.kind;
+    let n = src.size;
+    let one = ObjectWriter::allocate(g, image, f, to, t);
+    let a1 = one.answer;
+    let Stored::Done(f1) = a1 else {
+        return Headed {
+            answer: a1,
+            header: h,
+        };
+    };
+    let w1 = one.writer;
+    let at = h.location;
+    let two = copy(g, image, f1, at.block, payload_at(g, h), n, w1);
+    let a2 = two.answer;
+    let Stored::Done(f2) = a2 else {
+        return Headed {
+            answer: a2,
+            header: h,
+        };
+    };
+    let w2 = two.writer;
+    let three = w2.finalize(g, image, f2);
+    let a3 = three.answer;
+    let Stored::Done(_) = a3 else {
+        return Headed {
+            answer: a3,
+            header: h,
+        };
+    };
+    let w3 = three.writer;
+    let new = w3.object;
+    Headed {
+        answer: a3,
+        header: new,
+    }
+}
+
+// Copied, and then deleted where it was.
+pub fn move_object(
+    g: Geometry,
+    image: &mut [u8],
+    f: Fuse,
+    h: ObjectHeader,
+    to: ObjectLocation,
+) -> Headed
+    ensures { λ r. ⌜ endedBy (r .answer) (r .header) (now (image .exit)) ≡ run f (moveObject g h to) (now (image .entry)) ⌝ }
+    ensures { λ r. ⌜ r .header ≡ unlessStored (r .answer) h (r .header) ⌝ }
+{
+    let one = copy_object(g, image, f, h, to);
+    let a1 = one.answer;
+    let Stored::Done(f1) = a1 else {
+        return Headed {
+            answer: a1,
+            header: h,
+        };
+    };
+    let new = one.header;
+    let two = h.set_state(g, image, f1, ObjectDataState::Deleted);
+    let a2 = two.answer;
+    let Stored::Done(_) = a2 else {
+        return Headed {
+            answer: a2,
+            header: h,
+        };
+    };
+    Headed {
+        answer: a2,
+        header: new,
+    }
+}
+
+// The header is read again, and must be that of a finished object; h says the type.
+fn find_source(g: Geometry, image: &[u8], h: ObjectHeader) -> SourceRead
+    ensures { λ r. ⌜ sourceAnswer r ≡ sourceAt g h (now (image .entry)) ⌝ }
+    ensures { λ r. ⌜ smallSource r ⌝ }
+{
+    let at = h.location;
+    let got = ObjectReader::new(g, image, at, false);
+    let ReaderRead::Got(reader) = got else {
+        return SourceRead::Refused(got.number());
+    };
+    let state = h.state;
+    let CompositeObjectState::Allocated(t, _) = state else {
+        return SourceRead::Refused(4);
+    };
+    let seen = reader.object;
+    let n = seen.payload(g.s);
+    SourceRead::Got(Source { kind: t, size: n })
+}
+
+// Where the payload starts.
+fn payload_at(g: Geometry, h: ObjectHeader) -> usize
+    ensures { λ r. ⌜ r ≡ payloadAt g h ⌝ }
+    ensures { λ r. ⌜ r < 2 ^ 33 ⌝ }
+{
+    let at = h.location;
+    let k = g.granularity;
+    (at.offset as usize) + k.object_header(g.s)
+}
+
+// n payload bytes from a place of a block, 16 a turn.
+fn copy(
+    g: Geometry,
+    image: &mut [u8],
+    f: Fuse,
+    block: u32,
+    from: usize,
+    n: usize,
+    w: ObjectWriter,
+) -> Writing
+    requires { ⌜ (n ≤ 4294967295) × (from < 2 ^ 33) ⌝ }
+    ensures { λ r. ⌜ endedBy (r .answer) (r .writer) (now (image .exit)) ≡ run f (copying (turnsOf n) g block from n w) (now (image .entry)) ⌝ }
+{
+    let turns = (n + 15) / 16;
+    let mut fuse = f;
+    let mut v = w;
+    let mut i = 0;
+    while i < turns {
+        let done = 16 * i;
+        let m = least(16, n - done);
+        let r = copy_some(g, image, fuse, block, from + done, m, v);
+        let a = r.answer;
+        let Stored::Done(left) = a else {
+            return r;
+        };
+        fuse = left;
+        v = r.writer;
+        i += 1;
+    }
+    Writing {
+        answer: Stored::Done(fuse),
+        writer: v,
+    }
+}
+
+fn least(a: usize, b: usize) -> usize
+    ensures { λ r. ⌜ r ≡ min a b ⌝ }
+{
+    if a < b { a } else { b }
+}
+
+// At most 16 bytes, read from the image as it is by now.
+fn copy_some(
+    g: Geometry,
+    image: &mut [u8],
+    f: Fuse,
+    block: u32,
+    at: usize,
+    n: usize,
+    w: ObjectWriter,
+) -> Writing
+    requires { ⌜ n ≤ 16 ⌝ }
+    ensures { λ r. ⌜ endedBy (r .answer) (r .writer) (now (image .exit)) ≡ run f (chunk g block at n w) (now (image .entry)) ⌝ }
+{
+    let mut buffer = [0u8; 16];
+    copy_by(g, image, f, block, at, w, &mut buffer[..n])
+}
+
+fn copy_by(
+    g: Geometry,
+    image: &mut [u8],
+    f: Fuse,
+    block: u32,
+    at: usize,
+    w: ObjectWriter,
+    buffer: &mut [u8],
+) -> Writing
+    ensures { λ r. ⌜ endedBy (r .answer) (r .writer) (now (image .exit)) ≡ run f (chunk g block at (length (now (buffer .entry))) w) (now (image .entry)) ⌝ }
+{
+    let a = medium::read(g, image, block, at, buffer);
+    let Answered::Done = a else {
+        return Writing {
+            answer: Stored::Refused(a.number(), f),
+            writer: w,
+        };
+    };
+    w.write(g, image, f, buffer)
+}
