@@ -3,3 +3,4 @@ pub mod Numbers
 pub mod Places
 pub mod Reading
 pub mod Readers
+pub mod Listing

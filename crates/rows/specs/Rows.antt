@@ -11,7 +11,7 @@ use Rattle.medium.specs.declared.geometry.Geometry.{Geometry}
 use Rattle.medium.specs.declared.fuse.Fuse.the-variants.{Absent, Units}
 use Rattle.medium.specs.Geometry.{geometryOk, admit, fitOf}
 use Rattle.medium.specs.Operation.{Answer, done, refused, andThen, flash, Run, Op, _>>=_, _>>_, ask, test, putting, give, refuse, run, numberOf}
-use Rattle.medium.specs.Medium.{readable, writable, readAt, write}
+use Rattle.medium.specs.Medium.{readable, writable, erasable, readAt, write, erase}
 use Rattle.objects.specs.declared.types.ObjectType.the-variants.{FileData}
 use Rattle.objects.specs.declared.state.ObjectDataState.the-variants.{Deleted}
 use Rattle.objects.specs.declared.state.ObjectState.the-variants as state
@@ -25,6 +25,11 @@ use Rattle.objects.specs.Header.{stateAt, sizedAt, headerAt, payloadSizeOf, pay
 use Rattle.objects.specs.Info.{infoAt, totalOf, spanOf}
 use Rattle.objects.specs.Reader.{Chunk, readerAt, remainingOf, leftOf, readSome}
 use Rattle.objects.specs.Listing.{nextOf, Visit, Stop, end, free, broken, listFrom, listing}
+use Rattle.blocks.specs.declared.header.BlockHeader.{BlockHeader}
+use Rattle.blocks.specs.declared.header.BlockType.the-variants.{Metadata}
+use Rattle.blocks.specs.BlockHeader as header
+use Rattle.blocks.specs.BlockHeader.{kindNumber, headerBytes, writeHeader, padded, marked, kindOfType, namedKind, blockHeaderAt}
+use Rattle.blocks.specs.Format.{dataEmptyAt, again, planKnown, planOf, planAt, labelling, renewing, formatBlock, setBlockType}
 use Rattle.writer.specs.declared.writer.ObjectWriter.{ObjectWriter}
 use Rattle.writer.specs.Writer.{soundOf, allocate, appendable, putBytes, append, finishable, flush, close, finalize, delete, writeTo}
 use Rattle.writer.specs.Moving.{sourceAt, chunk, copying, copyObject, moveObject}
@@ -144,6 +149,30 @@ deletedTwice k at =
     let e = run Absent (obj k at >>= delete (geometry k)) blank in
     byWriter k (e .answer) (e .state) && byHeader k (headerAt (geometry k) (place 0 at) (e .state)) (e .state)
 
+-- ---- rows 9 and 10: a block's header, and FF behind it; an operation on it gives this number and leaves this image
+
+abbrev headed : List ℕ → List ℕ
+headed bs = bs ++ replicate (1024 - length bs) 255
+
+abbrev leaves : Op (Unit {0}) → List ℕ → ℕ → List ℕ → Bool
+leaves o img n after = let e = run Absent o img in eqb (numberOf (e .answer)) n && same (e .state) after
+
+-- a Data block whose erase count is FFFFFF00 and n
+abbrev worn : ℕ → List ℕ
+worn n = headed (0xBA ∷ 0x01 ∷ 0x44 ∷ 0xAA ∷ n ∷ 0xFF ∷ 0xFF ∷ 0xFF ∷ [])
+
+-- the same as an Undefined block with the last count
+abbrev formatted : List ℕ
+formatted = headed (0xBA ∷ 0x01 ∷ 0x44 ∷ 0xFF ∷ 0xFF ∷ 0xFF ∷ 0xFF ∷ 0xFF ∷ [])
+
+-- a block of a type byte, erase count 0
+abbrev typed : ℕ → List ℕ
+typed t = headed (0xBA ∷ 0x01 ∷ 0x44 ∷ t ∷ 0 ∷ 0 ∷ 0 ∷ 0 ∷ [])
+
+abbrev kindIn : Answer BlockHeader → ℕ
+kindIn (done h) = kindNumber (h .kind)
+kindIn (refused n) = 9
+
 -- ---- row 11: row 1's object moved to block 2, offset 8; an object is there that reads finished, with type and payload
 
 abbrev isPayload : Answer Chunk → Bool
@@ -194,6 +223,10 @@ table =
     ∷ unset (0x8E ∷ 0xF0 ∷ 0xFF ∷ 0x41 ∷ 0x42 ∷ 0x43 ∷ []) 3
     -- 8. Delete of a Deleted object: 0, nothing stored; finalize of it: 4
     ∷ deletedTwice Bit 8 ∷ deletedTwice Word1 8 ∷ deletedTwice Word4 12
+    -- 9. Format of a Data block, erase count 4,294,967,295: 2, nothing stored; 4,294,967,294: header with 4,294,967,295
+    ∷ leaves (formatBlock (geometry Bit) 0) (worn 0xFF) 2 (worn 0xFF) ∷ leaves (formatBlock (geometry Bit) 0) (worn 0xFE) 0 formatted
+    -- 10. Metadata set on a Data block: type byte 00, kind Unknown
+    ∷ leaves (setBlockType (geometry Bit) 0 Metadata) (typed 0xAA) 0 (typed 0x00) ∷ eqb (kindIn (blockHeaderAt (geometry Bit) 0 (typed 0x00))) 1
     -- 11. A, row 1 moved to block 2, offset 8: fuse 5 original only, 6 both, 7 copy only
     ∷ moved 5 true false ∷ moved 6 true true ∷ moved 7 false true
     -- 12. A, `write_to` at 8: 245 bytes done; 246 give 5 and byte 8 is 8E
@@ -201,5 +234,5 @@ table =
     ∷ []
 
 pub rows : all table ≡ true
-unfolding geometryOk admit fitOf _>>=_ ask test putting run readable writable readAt write typeOf markOf pairOf marksOf stateIn stateAt sizedAt headerAt payloadSizeOf payloadOf allocatableOf marking setState staying updateState sizableOf setPayloadSize infoAt totalOf readerAt remainingOf leftOf readSome nextOf listFrom listing soundOf allocate appendable putBytes append finishable flush close finalize delete writeTo sourceAt chunk copying copyObject moveObject
+unfolding geometryOk admit fitOf _>>=_ ask test putting run readable writable readAt write typeOf markOf pairOf marksOf stateIn stateAt sizedAt headerAt payloadSizeOf payloadOf allocatableOf marking setState staying updateState sizableOf setPayloadSize infoAt totalOf readerAt remainingOf leftOf readSome nextOf listFrom listing soundOf allocate appendable putBytes append finishable flush close finalize delete writeTo sourceAt chunk copying copyObject moveObject erasable erase headerBytes writeHeader padded marked header.blank kindOfType namedKind header.kindIn blockHeaderAt dataEmptyAt again planKnown planOf planAt labelling renewing formatBlock setBlockType
 rows = refl

@@ -1,4 +1,5 @@
 pub mod Laws
+pub mod Sequence
 pub mod Steps
 pub mod Turns
 pub mod Stored

@@ -3,7 +3,7 @@ use mathlib.Core.Path.{_≡_, refl, sym, ap, ap₂, _∙_}
 use mathlib.Core.Bool.{Bool, true, false, _&&_, and-true}
 use mathlib.Core.List.{List, [], _++_, append-assoc}
 use Prim.Native.Nat.{ℕ, _+_, _-_, _*_, _/_, _%_, _≤_, _<_}
-use native.Mathlib.Nat.{mod-lt, div-add-mod', mod-le, mod-self, mod-eq-of-lt, add-mod-left, one-mul, add-assoc, add-mul, add-mul-mod-self-right}
+use native.Mathlib.Nat.{mod-lt, div-add-mod', mod-le, mod-self, add-mod-left, one-mul, add-assoc, add-mul, add-mul-mod-self-right}
 use native.Mathlib.Omega.{arith}
 use lib.ListN.{length, take, drop, length-append, length-drop, take-append-drop}
 use lib.Seq.{take-length, take-append-add, drop-append-add, drop-length, length-take-le}
@@ -14,9 +14,8 @@ use Rattle.medium.specs.declared.fuse.Fuse.{Fuse}
 use Rattle.medium.specs.Granularity.{pick, unitsIn, alignOf}
 use Rattle.medium.specs.Geometry.{admit, address}
 use Rattle.medium.specs.Units.{FlashUnit, unitsOf}
-use Rattle.medium.specs.Operation.{World, flash, happen, apply, Answer, done, refused, Run, OpIn, Op, follow, _>>=_, ask, give, refuse, putting, cut, run}
+use Rattle.medium.specs.Operation.{flash, apply, Run, Op, _>>=_, ask, give, refuse, putting, cut, run}
 use Rattle.medium.specs.Medium.{writable, write}
-use Rattle.medium.proofs.Runs.{happen-append}
 use Rattle.medium.proofs.Bytes.{length-apply}
 use Rattle.medium.proofs.Places.{width-is}
 use Rattle.medium.proofs.Split.{units-split, units-even, units-more}
@@ -24,40 +23,7 @@ use Rattle.writer.specs.declared.writer.ObjectWriter.{ObjectWriter}
 use Rattle.writer.specs.Writer.{dataAt, wholeOf, tailOf, heldBack, putBytes, pendingOf}
 use Rattle.writer.specs.Steps.{storeWords}
 use Rattle.writer.proofs.Laws.{width}
-
--- ---- sequences
-
-pub bind-same : {W : World} {A B : Type 0} (o : OpIn W A) (p q : A → OpIn W B) (s : W .State) → ((a : A) (t : W .State) → p a t ≡ q a t) → (o >>= p) s ≡ (o >>= q) s
-unfolding _>>=_
-bind-same {W} {A} {B} o p q s h = go (o s .answer)
-  where
-    go : (a : Answer A) → follow {W = W} (o s .events) a p s ≡ follow (o s .events) a q s
-    go (done a) = ap (λ (r : Run W B). record { events = o s .events ++ r .events; answer = r .answer }) (h a (happen W (o s .events) s))
-    go (refused n) = refl
-
-pub bind-assoc : {W : World} {A B C : Type 0} (o : OpIn W A) (p : A → OpIn W B) (q : B → OpIn W C) (s : W .State) → ((o >>= p) >>= q) s ≡ (o >>= λ a. p a >>= q) s
-unfolding _>>=_
-bind-assoc {W} {A} {B} {C} o p q s = go (o s .answer)
-  where
-    more : (a : A) (b : Answer B) → (p a (happen W (o s .events) s)) .answer ≡ b
-        → follow {W = W} (o s .events ++ (p a (happen W (o s .events) s)) .events) b q s
-        ≡ record { events = o s .events ++ (follow {W = W} ((p a (happen W (o s .events) s)) .events) b q (happen W (o s .events) s)) .events; answer = (follow {W = W} ((p a (happen W (o s .events) s)) .events) b q (happen W (o s .events) s)) .answer }
-    more a (done b) e = rw (happen-append W (o s .events) ((p a (happen W (o s .events) s)) .events) s, append-assoc)
-    more a (refused n) e = refl
-
-    go : (a : Answer A)
-        → follow {W = W} ((follow {W = W} (o s .events) a p s) .events) ((follow {W = W} (o s .events) a p s) .answer) q s
-        ≡ follow {W = W} (o s .events) a (λ x t. follow {W = W} ((p x t) .events) ((p x t) .answer) q t) s
-    go (done a) = more a ((p a (happen W (o s .events) s)) .answer) refl
-    go (refused n) = refl
-
-pub give-bind : {W : World} {A B : Type 0} (a : A) (p : A → OpIn W B) (s : W .State) → (give a >>= p) s ≡ p a s
-unfolding _>>=_ ask
-give-bind a p s = refl
-
-pub bind-first : {W : World} {A B : Type 0} (o p : OpIn W A) (q : A → OpIn W B) (s : W .State) → o s ≡ p s → (o >>= q) s ≡ (p >>= q) s
-unfolding _>>=_
-bind-first {W} {A} o p q s e = ap (λ (r : Run W A). follow {W = W} (r .events) (r .answer) q s) e
+use Rattle.writer.proofs.Sequence.{bind-same, bind-assoc, bind-first, give-bind}
 
 -- ---- one store in two
 
@@ -69,12 +35,12 @@ placed-is : (g : Geometry) (room b o n : ℕ) → o + alignOf (width g) n ≤ g 
 unfolding writable
 placed-is g room b o n h = rw (le-leb _ _ h, and-true)
 
--- a store that its tests let pass, or refuse with P
-write-is : (g : Geometry) (b o P : ℕ) (bs img : List ℕ) (t : Bool) → writable g (length img) b o (length bs) ≡ P → eqb P 0 ≡ t
-    → write g b o bs img ≡ pick {A = Op (Unit {0})} t (putting (unitsOf (width g) (address g b o) bs) tt) (refuse P) img
+-- a store that its tests let pass with 0, or refuse with another number
+write-is : (g : Geometry) (b o r : ℕ) (bs img : List ℕ) (t : Bool) → writable g (length img) b o (length bs) ≡ r → eqb r 0 ≡ t
+    → write g b o bs img ≡ pick {A = Op (Unit {0})} t (putting (unitsOf (width g) (address g b o) bs) tt) (refuse r) img
 unfolding write
-write-is g b o P bs img true e q = rw (e, q)
-write-is g b o P bs img false e q = rw (e, q)
+write-is g b o r bs img true e q = rw (e, q)
+write-is g b o r bs img false e q = rw (e, q)
 
 write-split : (g : Geometry) (b o m : ℕ) (xs ys img : List ℕ) → length xs ≡ m * width g
     → o + (length xs + alignOf (width g) (length ys)) ≤ g .size
@@ -106,32 +72,29 @@ write-split g b o m xs ys img e h = go (eqb (placed g (length img) b o) 0) refl
         units-split (width g) hk m (address g b o) xs ys e
         ∙ ap (λ (a : ℕ). unitsOf (width g) (address g b o) xs ++ unitsOf (width g) a ys) (add-assoc (b * g .size) o (m * width g))
 
-    a₁ : writable g (length img) b o (length (xs ++ ys)) ≡ placed g (length img) b o
-    a₁ = placed-is g (length img) b o (length (xs ++ ys)) (rw whole h)
+    all-placed : writable g (length img) b o (length (xs ++ ys)) ≡ placed g (length img) b o
+    all-placed = placed-is g (length img) b o (length (xs ++ ys)) (rw whole h)
 
-    a₂ : writable g (length img) b o (length xs) ≡ placed g (length img) b o
-    a₂ = placed-is g (length img) b o (length xs) (rw first (omega arith))
+    first-placed : writable g (length img) b o (length xs) ≡ placed g (length img) b o
+    first-placed = placed-is g (length img) b o (length xs) (rw first (omega arith))
 
-    a₃ : writable g (length (apply us img)) b (o + m * width g) (length ys) ≡ placed g (length img) b o
-    a₃ =
+    rest-placed : writable g (length (apply us img)) b (o + m * width g) (length ys) ≡ placed g (length img) b o
+    rest-placed =
         placed-is g (length (apply us img)) b (o + m * width g) (length ys) (omega arith)
         ∙ rw (length-apply us img, add-mul-mod-self-right o m (width g))
 
     go : (t : Bool) → eqb (placed g (length img) b o) 0 ≡ t → write g b o (xs ++ ys) img ≡ (write g b o xs >>= λ _. write g b (o + m * width g) ys) img
     go true q =
-        write-is g b o (placed g (length img) b o) (xs ++ ys) img true a₁ q
-        ∙ rw (write-is g b o (placed g (length img) b o) xs img true a₂ q, write-is g b (o + m * width g) (placed g (length img) b o) ys (apply us img) true a₃ q, both)
+        write-is g b o (placed g (length img) b o) (xs ++ ys) img true all-placed q
+        ∙ rw (write-is g b o (placed g (length img) b o) xs img true first-placed q, write-is g b (o + m * width g) (placed g (length img) b o) ys (apply us img) true rest-placed q, both)
     go false q =
-        write-is g b o (placed g (length img) b o) (xs ++ ys) img false a₁ q
-        ∙ rw (write-is g b o (placed g (length img) b o) xs img false a₂ q)
+        write-is g b o (placed g (length img) b o) (xs ++ ys) img false all-placed q
+        ∙ rw (write-is g b o (placed g (length img) b o) xs img false first-placed q)
 
 -- ---- whole words
 
 pub whole-le : (k n : ℕ) → wholeOf k n ≤ n
 whole-le k n = omega arith
-
-pub whole-none : (k n : ℕ) → n < k → wholeOf k n ≡ 0
-whole-none k n h = omega (arith, mod-eq-of-lt h)
 
 whole-one : (k : ℕ) → wholeOf k k ≡ k
 whole-one k = omega (arith, mod-self k)

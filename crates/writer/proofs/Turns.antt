@@ -1,14 +1,20 @@
--- The copying loop, turn by turn.
-use mathlib.Core.Path.{_≡_}
+-- Copying: the loop turn by turn, and the copy as one step of its caller.
+use mathlib.Core.Path.{_≡_, sym, ap, _∙_}
 use mathlib.Core.List.{List}
 use Prim.Native.Nat.{ℕ, suc, _+_, _-_, _*_, _≤_, _<_, min}
 use native.Mathlib.Omega.{arith}
-use Rattle.medium.specs.Operation.{done, _>>=_, run}
+use Rattle.medium.specs.Operation.{flash, done, Op, Run, _>>=_, give, cut, run}
 use Rattle.medium.specs.declared.geometry.Geometry.{Geometry}
 use Rattle.medium.specs.declared.fuse.Fuse.{Fuse}
 use Rattle.medium.proofs.Runs.{run-ask}
 use Rattle.writer.specs.declared.writer.ObjectWriter.{ObjectWriter}
-use Rattle.writer.specs.Moving.{chunk, copying}
+use Rattle.objects.specs.declared.location.ObjectLocation.{ObjectLocation}
+use Rattle.objects.specs.declared.header.ObjectHeader.{ObjectHeader}
+use Rattle.writer.specs.declared.moving.Source.{Source}
+use Rattle.writer.specs.Writer.{allocate, finalize}
+use Rattle.writer.specs.Moving.{payloadAt, chunk, turnsOf, copying}
+use Rattle.writer.specs.Steps.{writeCopy}
+use Rattle.writer.proofs.Sequence.{bind-same, bind-assoc}
 
 pub copy-step : (turns i : ℕ) (g : Geometry) (b from n : ℕ) (v : ObjectWriter) (f : Fuse) (img : List ℕ) → i < turns
     → run f (copying (turns - i) g b (from + 16 * i) (n - 16 * i) v) img
@@ -34,3 +40,17 @@ copy-start turns g b from n v f img =
     let a : from + 16 * 0 ≡ from = omega arith in
     let s : n - 16 * 0 ≡ n = omega arith in
     rw (e, a, s)
+
+-- the steps of a copy, taken together
+pub copy-whole : (g : Geometry) (h : ObjectHeader) (to : ObjectLocation) (src : Source) (f : Fuse) (img : List ℕ)
+    → run f (allocate g to (src .kind) >>= λ w. copying (turnsOf (src .size)) g (h .location .block) (payloadAt g h) (src .size) w >>= λ v. finalize g v >>= λ u. give (u .object)) img
+    ≡ run f (writeCopy g h to src >>= λ u. give (u .object)) img
+unfolding run writeCopy
+copy-whole g h to src f img =
+    ap (λ (r : Run flash ObjectHeader). cut f r img)
+    (sym (bind-assoc (allocate g to (src .kind)) (λ w. copied w >>= λ v. finalize g v) (λ u. give (u .object)) img
+    ∙ bind-same (allocate g to (src .kind)) (λ w. (copied w >>= λ v. finalize g v) >>= λ u. give (u .object)) (λ w. copied w >>= λ v. finalize g v >>= λ u. give (u .object)) img
+    (λ w i. bind-assoc (copied w) (λ v. finalize g v) (λ u. give (u .object)) i)))
+  where
+    copied : ObjectWriter → Op ObjectWriter
+    copied w = copying (turnsOf (src .size)) g (h .location .block) (payloadAt g h) (src .size) w

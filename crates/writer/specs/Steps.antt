@@ -5,15 +5,25 @@ use mathlib.Core.List.{List}
 use lib.ListN.{length}
 use lib.Dec.{eqb}
 use Rattle.medium.specs.declared.geometry.Geometry.{Geometry}
+use Rattle.medium.specs.declared.fuse.Stored.{Stored}
 use Rattle.medium.specs.Granularity.{pick, widthOf}
 use Rattle.medium.specs.Geometry.{fitOf}
 use Rattle.medium.specs.Operation.{Op, _>>=_, give}
 use Rattle.objects.specs.declared.state.ObjectDataState.{ObjectDataState}
+use Rattle.objects.specs.declared.location.ObjectLocation.{ObjectLocation}
+use Rattle.objects.specs.declared.header.ObjectHeader.{ObjectHeader}
 use Rattle.objects.specs.Header.{setState}
 use Rattle.writer.specs.declared.writer.ObjectWriter.{ObjectWriter}
+use Rattle.writer.specs.declared.writer.Writing.{Writing}
+use Rattle.writer.specs.declared.moving.Source.{Source}
 use Rattle.writer.specs.declared.moving.SourceRead.{SourceRead}
 use Rattle.writer.specs.declared.moving.SourceRead.the-variants as source
-use Rattle.writer.specs.Writer.{withHeader, possible, wholeOf, putBytes}
+use Rattle.writer.specs.Writer.{spentOf, withHeader, possible, allocate, wholeOf, putBytes, finalize}
+use Rattle.writer.specs.Moving.{payloadAt, turnsOf, copying}
+
+-- a writer that no call goes on with
+abbrev pub spentBy : ObjectWriter → Stored → Writing
+spentBy w a = record { answer = a; writer = spentOf w }
 
 -- the whole words of the bytes are stored, whatever is held, and the rest is held
 abbrev pub storeWords : Geometry → ObjectWriter → List ℕ → Op ObjectWriter
@@ -33,3 +43,10 @@ marked g to w = do
 abbrev pub smallSource : SourceRead → Type 0
 smallSource (source.Got s) = s .size ≤ 4294967295
 smallSource (source.Refused n) = Unit {0}
+
+-- the copy of what was found
+unfoldable pub writeCopy : Geometry → ObjectHeader → ObjectLocation → Source → Op ObjectWriter
+writeCopy g h to src = do
+  w ← allocate g to (src .kind)
+  w₁ ← copying (turnsOf (src .size)) g (h .location .block) (payloadAt g h) (src .size) w
+  finalize g w₁

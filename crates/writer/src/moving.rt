@@ -18,7 +18,7 @@ ghost use Prim.Native.Nat.{_+_, _≤_, _<_, _^_, min};
 ghost use lib.ListN.{length};
 ghost use Rattle.medium.specs.Operation.{run, endedBy, unlessStored};
 ghost use Rattle.writer.specs.Moving.{sourceAnswer, sourceNumber, sourceAt, payloadAt, chunk, turnsOf, copying, copyObject, moveObject};
-ghost use Rattle.writer.specs.Steps.{smallSource};
+ghost use Rattle.writer.specs.Steps.{smallSource, writeCopy};
 
 // What is to be copied.
 pub struct Source {
@@ -60,39 +60,18 @@ pub fn copy_object(
             header: h,
         };
     };
-    let t = src.kind;
-    let n = src.size;
-    let one = ObjectWriter::allocate(g, image, f, to, t);
-    let a1 = one.answer;
-    let Stored::Done(f1) = a1 else {
+    let r = write_copy(g, image, f, h, to, src);
+    let a = r.answer;
+    let Stored::Done(_) = a else {
         return Headed {
-            answer: a1,
+            answer: a,
             header: h,
         };
     };
-    let w1 = one.writer;
-    let at = h.location;
-    let two = copy(g, image, f1, at.block, payload_at(g, h), n, w1);
-    let a2 = two.answer;
-    let Stored::Done(f2) = a2 else {
-        return Headed {
-            answer: a2,
-            header: h,
-        };
-    };
-    let w2 = two.writer;
-    let three = w2.finalize(g, image, f2);
-    let a3 = three.answer;
-    let Stored::Done(_) = a3 else {
-        return Headed {
-            answer: a3,
-            header: h,
-        };
-    };
-    let w3 = three.writer;
-    let new = w3.object;
+    let w = r.writer;
+    let new = w.object;
     Headed {
-        answer: a3,
+        answer: a,
         header: new,
     }
 }
@@ -148,6 +127,36 @@ fn find_source(g: Geometry, image: &[u8], h: ObjectHeader) -> SourceRead
     let seen = reader.object;
     let n = seen.payload(g.s);
     SourceRead::Got(Source { kind: t, size: n })
+}
+
+// Writes the copy: type, payload, size and mark.
+fn write_copy(
+    g: Geometry,
+    image: &mut [u8],
+    f: Fuse,
+    h: ObjectHeader,
+    to: ObjectLocation,
+    src: Source,
+) -> Writing
+    requires { ⌜ src .size ≤ 4294967295 ⌝ }
+    ensures { λ r. ⌜ endedBy (r .answer) (r .writer) (now (image .exit)) ≡ run f (writeCopy g h to src) (now (image .entry)) ⌝ }
+{
+    let t = src.kind;
+    let n = src.size;
+    let one = ObjectWriter::allocate(g, image, f, to, t);
+    let a1 = one.answer;
+    let Stored::Done(f1) = a1 else {
+        return one;
+    };
+    let w1 = one.writer;
+    let at = h.location;
+    let two = copy(g, image, f1, at.block, payload_at(g, h), n, w1);
+    let a2 = two.answer;
+    let Stored::Done(f2) = a2 else {
+        return two;
+    };
+    let w2 = two.writer;
+    w2.finalize(g, image, f2)
 }
 
 // Where the payload starts.

@@ -20,7 +20,7 @@ ghost use Rattle.medium.specs.Granularity.{widthOf};
 ghost use Rattle.medium.specs.Operation.{run, endedBy, counted, unlessStored};
 ghost use Rattle.objects.specs.Types.{rankOf};
 ghost use Rattle.writer.specs.Writer.{freshOf, spentOf, keptOf, backOf, withHeader, dataAt, soundOf, spaceOf, payloadSize, totalSize, appendable, append, pendingOf, heldBack, finishable, wroteOf, wroteEnd, writeTo};
-ghost use Rattle.writer.specs.Steps.{storeWords, usableOf, marked};
+ghost use Rattle.writer.specs.Steps.{spentBy, usableOf, storeWords, marked};
 
 pub struct ObjectWriter {
     pub object: ObjectHeader,
@@ -57,24 +57,15 @@ impl ObjectWriter {
         let w = ObjectWriter::fresh(g, at, t);
         let st = CompositeObjectState::read(g, image, at);
         let StateRead::Got(state) = st else {
-            return Writing {
-                answer: Stored::Refused(st.number(), f),
-                writer: w.spend(),
-            };
+            return w.spent_by(Stored::Refused(st.number(), f));
         };
         let ok = state.allocatable(t);
         let Answered::Done = ok else {
-            return Writing {
-                answer: Stored::Refused(ok.number(), f),
-                writer: w.spend(),
-            };
+            return w.spent_by(Stored::Refused(ok.number(), f));
         };
         let a = medium::write(g, image, f, at.block, at.offset as usize, &[t.byte()]);
         let Stored::Done(_) = a else {
-            return Writing {
-                answer: a,
-                writer: w.spend(),
-            };
+            return w.spent_by(a);
         };
         Writing {
             answer: a,
@@ -332,12 +323,16 @@ impl ObjectWriter {
         }
     }
 
-    fn spend(self) -> ObjectWriter
-        ensures { λ r. ⌜ r ≡ spentOf self ⌝ }
+    // No call goes on with this writer.
+    fn spent_by(self, a: Stored) -> Writing
+        ensures { λ r. ⌜ r ≡ spentBy self a ⌝ }
     {
         let mut w = self;
         w.spent = true;
-        w
+        Writing {
+            answer: a,
+            writer: w,
+        }
     }
 
     // As it went in, but spent where the power was lost.
@@ -351,10 +346,7 @@ impl ObjectWriter {
             };
         };
         if n == 8 {
-            return Writing {
-                answer: a,
-                writer: self.spend(),
-            };
+            return self.spent_by(a);
         }
         Writing {
             answer: a,

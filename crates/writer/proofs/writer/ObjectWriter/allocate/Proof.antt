@@ -13,7 +13,7 @@ use Rattle.objects.proofs.state.CompositeObjectState.read.Reads as read-reads
 use Rattle.objects.proofs.state.StateRead.number.Reads as state-StateRead-number-reads
 use Rattle.objects.proofs.types.ObjectType.byte.Reads as byte-reads
 use Rattle.writer.proofs.writer.ObjectWriter.fresh.Reads as fresh-reads
-use Rattle.writer.proofs.writer.ObjectWriter.spend.Reads as spend-reads
+use Rattle.writer.proofs.writer.ObjectWriter.spent_by.Reads as spent-by-reads
 
 fresh-requires : tie.Need-fresh-requires
 fresh-requires c κs = search needs
@@ -30,15 +30,15 @@ enum-told c = search needs
 number-requires : tie.Need-number-requires
 number-requires c κs = search needs
 
-spend-requires : tie.Need-spend-requires
-spend-requires c κs = search needs
+spent-by-requires : tie.Need-spent-by-requires
+spent-by-requires c κs = search needs
 
 same-length : tie.Need-same-length
 same-length c = search needs
 
 returns : tie.Need-returns
 unfolding allocate
-returns c = rw (c .before .number .ensures, c .before .before .enum-told .given .1) (sym (ask-stop _ _ _ _ (sym (rw (c .before .before .enum-told .given .1) at (c .before .before .before .before .read .ensures)))), rw (c .spend .ensures, c .before .before .before .before .before .before .fresh .ensures))
+returns c = rw (c .spent-by .ensures, c .before .before .before .before .before .before .fresh .ensures, c .before .number .ensures, c .before .before .enum-told .given .1) (sym (ask-stop _ _ _ _ (sym (rw (c .before .before .enum-told .given .1) at (c .before .before .before .before .read .ensures)))), refl)
 
 allocatable-requires : tie.Need-allocatable-requires
 allocatable-requires c κs = search needs
@@ -52,15 +52,15 @@ enum-told-3 c = search needs
 number-requires-2 : tie.Need-number-requires-2
 number-requires-2 c κs = search needs
 
-spend-requires-2 : tie.Need-spend-requires-2
-spend-requires-2 c κs = search needs
+spent-by-requires-2 : tie.Need-spent-by-requires-2
+spent-by-requires-2 c κs = search needs
 
 same-length-2 : tie.Need-same-length-2
 same-length-2 c = search needs
 
 returns-2 : tie.Need-returns-2
 unfolding allocate
-returns-2 c = rw (c .before .number2 .ensures, c .before .before .enum-told3 .given .1) (sym (ask-on _ _ _ _ (sym (rw (c .before .before .before .before .before .before .st .given .1) at (c .before .before .before .before .before .before .before .before .read .ensures))) ∙ ask-stop _ _ _ _ (sym (rw (c .before .before .enum-told3 .given .1) at (c .before .before .before .before .allocatable .ensures)))), rw (c .spend2 .ensures, c .before .before .before .before .before .before .before .before .before .before .fresh .ensures))
+returns-2 c = rw (c .spent-by2 .ensures, c .before .before .before .before .before .before .before .before .before .before .fresh .ensures, c .before .number2 .ensures, c .before .before .enum-told3 .given .1) (sym (ask-on _ _ _ _ (sym (rw (c .before .before .before .before .before .before .st .given .1) at (c .before .before .before .before .before .before .before .before .read .ensures))) ∙ ask-stop _ _ _ _ (sym (rw (c .before .before .enum-told3 .given .1) at (c .before .before .before .before .allocatable .ensures)))), refl)
 
 cast-write : tie.Need-cast-write
 cast-write c = search needs
@@ -80,15 +80,15 @@ enum-told-4 c = search needs
 enum-told-5 : tie.Need-enum-told-5
 enum-told-5 c = search needs
 
-spend-requires-3 : tie.Need-spend-requires-3
-spend-requires-3 c κs = search needs
+spent-by-requires-3 : tie.Need-spent-by-requires-3
+spent-by-requires-3 c κs = search needs
 
 same-length-3 : tie.Need-same-length-3
 same-length-3 c = search needs
 
 returns-3 : tie.Need-returns-3
 unfolding allocate
-returns-3 c = rw (c .before .enum-told5 .given .1) (sym (ask-on _ _ _ _ (sym (rw (c .before .before .before .before .before .before .before .before .before .before .before .before .before .before .st .given .1) at (c .before .before .before .before .before .before .before .before .before .before .before .before .before .before .before .before .read .ensures))) ∙ ask-on _ _ _ _ (sym (rw (c .before .before .before .before .before .before .before .before .before .before .enum-told2 .given .1) at (c .before .before .before .before .before .before .before .before .before .before .before .before .allocatable .ensures))) ∙ stop _ _ _ _ _ _ tt _ (rw (c .before .before .before .before .before .before .before .byte .ensures) at (c .before .before .before .before .before .write .ensures)) (c .before .enum-told5 .given .1)), rw (c .spend3 .ensures, c .before .before .before .before .before .before .before .before .before .before .before .before .before .before .before .before .before .before .fresh .ensures))
+returns-3 c = rw (c .spent-by3 .ensures, c .before .before .before .before .before .before .before .before .before .before .before .before .before .before .before .before .before .before .fresh .ensures, c .before .enum-told5 .given .1) (sym (ask-on _ _ _ _ (sym (rw (c .before .before .before .before .before .before .before .before .before .before .before .before .before .before .st .given .1) at (c .before .before .before .before .before .before .before .before .before .before .before .before .before .before .before .before .read .ensures))) ∙ ask-on _ _ _ _ (sym (rw (c .before .before .before .before .before .before .before .before .before .before .enum-told2 .given .1) at (c .before .before .before .before .before .before .before .before .before .before .before .before .allocatable .ensures))) ∙ stop _ _ _ _ _ _ tt _ (rw (c .before .before .before .before .before .before .before .byte .ensures) at (c .before .before .before .before .before .write .ensures)) (c .before .enum-told5 .given .1)), refl)
 
 same-length-4 : tie.Need-same-length-4
 same-length-4 c = search needs
@@ -106,14 +106,14 @@ allocate-spec =
     enum-known-st
     enum-told
     number-requires
-    spend-requires
+    spent-by-requires
     same-length
     returns
     allocatable-requires
     enum-told-2
     enum-told-3
     number-requires-2
-    spend-requires-2
+    spent-by-requires-2
     same-length-2
     returns-2
     cast-write
@@ -122,7 +122,7 @@ allocate-spec =
     write-requires
     enum-told-4
     enum-told-5
-    spend-requires-3
+    spent-by-requires-3
     same-length-3
     returns-3
     same-length-4

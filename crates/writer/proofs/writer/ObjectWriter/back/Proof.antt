@@ -4,7 +4,7 @@ use Rattle.writer.proofs.writer.ObjectWriter.back.Statement.{statement}
 use Rattle.writer.proofs.writer.ObjectWriter.back.Tie as tie
 use Rattle.writer.proofs.writer.ObjectWriter.back.Reads as reads
 use Rattle.writer.proofs.writer.ObjectWriter.back.Lts as lts
-use Rattle.writer.proofs.writer.ObjectWriter.spend.Reads as spend-reads
+use Rattle.writer.proofs.writer.ObjectWriter.spent_by.Reads as spent-by-reads
 
 enum-known-a : tie.Need-enum-known-a
 enum-known-a c = search needs
@@ -15,14 +15,15 @@ enum-told c = search needs
 returns : tie.Need-returns
 returns c = rw (c .enum-told .given .1)
 
-spend-requires : tie.Need-spend-requires
-spend-requires c κs = search needs
+spent-by-requires : tie.Need-spent-by-requires
+spent-by-requires c κs = search needs
 
 returns-2 : tie.Need-returns-2
-returns-2 c = rw (c .before .before .before .a .given .1, eq-eqb _ _ (c .before .if1 .taken), c .spend .ensures)
+returns-2 c = rw (c .spent-by .ensures, c .before .before .before .a .given .1, eq-eqb _ _ (c .before .if1 .taken))
 
 returns-3 : tie.Need-returns-3
 returns-3 c = rw (c .before .before .a .given .1, ne-eqb _ _ (c .if1 .left))
 
 pub back-spec : {M : Type 1} → statement M
-back-spec = tie.close (tie.spec enum-known-a enum-told returns spend-requires returns-2 returns-3)
+back-spec =
+    tie.close (tie.spec enum-known-a enum-told returns spent-by-requires returns-2 returns-3)

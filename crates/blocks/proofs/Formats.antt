@@ -1,0 +1,194 @@
+-- A format: bytes that are FF, what a reachable block allows, the plan and its stores, and the loop over blocks.
+use mathlib.Core.Path.{_≡_, refl, sym, ap, _∙_}
+use Prim.Native.Nat.{ℕ, zero, suc, _+_, _-_, _*_, _%_, _≤_, _<_}
+use native.Mathlib.Nat.{not-suc-le-zero}
+use native.Mathlib.Numerals.{add-one}
+use native.Mathlib.Omega.{arith}
+use mathlib.Core.Bool.{Bool, true, false, _&&_}
+use mathlib.Core.List.{List, [], _∷_}
+use lib.ListN.{length, getD, take, drop}
+use lib.Seq.{drop-cons, drop-length}
+use lib.Dec.{leb, ltb, eqb}
+use borrow.Author.Tests.{ne-eqb, le-leb, lt-ltb, ltb-true}
+use Rattle.medium.specs.declared.granularity.Granularity.{Granularity}
+use Rattle.medium.specs.declared.granularity.Granularity.the-variants.{Bit, Word1, Word4}
+use Rattle.medium.specs.declared.geometry.Geometry.{Geometry}
+use Rattle.medium.specs.declared.fuse.Fuse.{Fuse}
+use Rattle.medium.specs.Granularity.{pick, widthOf, alignOf, blockHeader}
+use Rattle.medium.specs.Geometry.{geometryOk, admit, checkOf, address}
+use Rattle.medium.specs.Units.{under, blank}
+use Rattle.medium.specs.Operation.{Answer, done, refused, andThen, run, ask, give, test, putting, _>>=_}
+use Rattle.medium.specs.Medium.{part, readable, writable, erasable, readAt, write, erase}
+use Rattle.medium.proofs.Runs.{run-ask, ask-on, test-on, test-stop}
+use Rattle.medium.proofs.Bytes.{length-erased}
+use Rattle.medium.proofs.Checks.{Fine, sound-is, admitted, admit-pass, picked}
+use Rattle.medium.proofs.Places.{headed, even-align}
+use Rattle.blocks.specs.declared.header.BlockType.the-variants.{Undefined}
+use Rattle.blocks.specs.declared.header.BlockHeaderKind.the-variants.{Known}
+use Rattle.blocks.specs.declared.format.Plan.{Plan}
+use Rattle.blocks.specs.declared.format.Plan.the-variants as plan
+use Rattle.blocks.specs.BlockHeader.{wideBytes, headerBytes, writeHeader, headerIn, blockHeaderAt}
+use Rattle.blocks.specs.Format.{allFF, dataLength, dataEmptyAt, planBy, planAt, undefined, labelling, renewing, carryOut, formatBlock, formatFrom, formatStorage}
+use Rattle.blocks.proofs.Headers.{passed, readable-of}
+
+-- ---- bytes that are FF
+
+pub erased-more : (l : List ℕ) (i : ℕ) → i < length l → getD l i 0 ≡ 255 → allFF (drop i l) ≡ allFF (drop (i + 1) l)
+erased-more l i h e = rw (drop-cons l i 0, e, add-one)
+
+pub erased-not : (l : List ℕ) (i : ℕ) → i < length l → (getD l i 0 ≡ 255 → ⊥) → allFF (drop i l) ≡ false
+erased-not l i h n = rw (drop-cons l i 0, ne-eqb _ _ n)
+
+pub erased-end : (l : List ℕ) (i : ℕ) → i ≡ length l → allFF (drop i l) ≡ true
+erased-end l i e = rw (e, drop-length l)
+
+-- ---- a block that can be reached can be read, every range of it
+
+pub reach-reads : (g : Geometry) (room b o n : ℕ) → (geometryOk g ≡ true → o + n ≤ g .size) → readable g room b o n ≡ erasable g room b
+unfolding readable erasable admit
+reach-reads g room b o n h = go (geometryOk g) refl
+  where
+    in-block : (t : Bool) → o + n ≤ g .size → _≡_ {A = ℕ} (pick (t && leb (o + n) (g .size)) 0 3) (pick t 0 3)
+    in-block true k = rw (le-leb _ _ k)
+    in-block false k = refl
+
+    go : (t : Bool) → geometryOk g ≡ t
+        → _≡_ {A = ℕ} (pick {A = ℕ} t (pick {A = ℕ} (eqb (g .size * g .count) room) (pick {A = ℕ} (ltb b (g .count) && leb (o + n) (g .size)) 0 3) 7) 6)
+        (pick {A = ℕ} t (pick {A = ℕ} (eqb (g .size * g .count) room) (pick {A = ℕ} (ltb b (g .count)) 0 3) 7) 6)
+    go true e = ap (λ (m : ℕ). pick (eqb (g .size * g .count) room) m 7) (in-block (ltb b (g .count)) (h e))
+    go false e = refl
+
+pub read-reached : (g : Geometry) (b o n : ℕ) (img : List ℕ) (r : ℕ) → (geometryOk g ≡ true → o + n ≤ g .size) → r ≡ erasable g (length img) b → r ≡ 0
+    → readAt g b o n img ≡ done (part (address g b o) n img)
+unfolding readAt
+read-reached g b o n img r h e z = rw (reach-reads g (length img) b o n h, ← e, z)
+
+pub read-unreached : (g : Geometry) (b o n : ℕ) (img : List ℕ) (r : ℕ) → (geometryOk g ≡ true → o + n ≤ g .size) → r ≡ erasable g (length img) b → (r ≡ 0 → ⊥)
+    → readAt g b o n img ≡ refused r
+unfolding readAt
+read-unreached g b o n img r h e z = rw (reach-reads g (length img) b o n h, ← e, ne-eqb _ _ z)
+
+-- of a block that can be reached: the geometry is sound, and the block lies within the image
+pub reach-fine : (g : Geometry) (room b r : ℕ) → r ≡ erasable g room b → r ≡ 0 → Fine g room
+unfolding erasable
+reach-fine g room b r e z = admitted g room (pick (ltb b (g .count)) 0 3) (sym e ∙ z) .0
+
+pub reach-checked : (g : Geometry) (room b : ℕ) → erasable g room b ≡ 0 → checkOf g room ≡ 0
+unfolding erasable
+reach-checked g room b e = passed g room (pick (ltb b (g .count)) 0 3) e
+
+pub reach-below : (g : Geometry) (room b r : ℕ) → r ≡ erasable g room b → r ≡ 0 → b < g .count
+unfolding erasable
+reach-below g room b r e z = ltb-true _ _ (picked (ltb b (g .count)) 0 2 (admitted g room (pick (ltb b (g .count)) 0 3) (sym e ∙ z) .1) .0)
+
+pub data-fits : (g : Geometry) → geometryOk g ≡ true → blockHeader (g .granularity) + dataLength g ≤ g .size
+data-fits g e = omega (arith, sound-is g e .least, headed (g .granularity) .block-short)
+
+module _ (g : Geometry) (b : ℕ) (img : List ℕ) (r : ℕ) (e : r ≡ erasable g (length img) b) where
+  pub data-unreached : (r ≡ 0 → ⊥) → dataEmptyAt g b img ≡ refused r
+  unfolding dataEmptyAt
+  data-unreached h = rw (read-unreached g b (blockHeader (g .granularity)) (dataLength g) img r (data-fits g) e h)
+
+  pub data-reached : r ≡ 0 → dataEmptyAt g b img ≡ done (allFF (part (address g b (blockHeader (g .granularity))) (dataLength g) img))
+  unfolding dataEmptyAt
+  data-reached z = rw (read-reached g b (blockHeader (g .granularity)) (dataLength g) img r (data-fits g) e z)
+
+  -- the same of the range that a caller lent: n bytes from behind a header of h
+  pub data-told : (h n : ℕ) (t : Bool) → h ≡ blockHeader (g .granularity) → n ≡ g .size - h → t ≡ allFF (take n (drop (b * g .size + h) img)) → r ≡ 0
+      → dataEmptyAt g b img ≡ done t
+  data-told h n t eh en et z = data-reached z ∙ rw (et, en, eh)
+
+-- ---- the plan is carried out
+
+pub format-on : (f : Fuse) (g : Geometry) (b : ℕ) (img : List ℕ) (p : Plan) → p ≡ planAt g b img → run f (formatBlock g b) img ≡ run f (carryOut g b p) img
+unfolding formatBlock
+format-on f g b img p e = ask-on f (λ i. done (planAt g b i)) (λ q. carryOut g b q) img (ap (λ (q : Plan). done q) (sym e))
+
+pub format-by : (f : Fuse) (g : Geometry) (b : ℕ) (img : List ℕ) (p q : Plan) → p ≡ planAt g b img → p ≡ q → run f (formatBlock g b) img ≡ run f (carryOut g b q) img
+format-by f g b img p q e d = format-on f g b img p e ∙ rw d
+
+-- ---- block by block
+
+pub format-step : (n b : ℕ) (g : Geometry) (f : Fuse) (img : List ℕ) → b < n → run f (formatFrom (n - b) g b) img ≡ run f (formatBlock g b >>= λ _. formatFrom (n - (b + 1)) g (b + 1)) img
+unfolding formatFrom
+format-step n b g f img h = let e : n - b ≡ suc (n - (b + 1)) = omega arith in rw e
+
+pub format-end : (n b : ℕ) (g : Geometry) (f : Fuse) (img : List ℕ) → n ≤ b → run f (formatFrom (n - b) g b) img ≡ record { answer = done tt; fuse = f; state = img }
+unfolding formatFrom
+format-end n b g f img h = let e : n - b ≡ 0 = omega arith in rw e (run-ask f (λ _. done tt) img)
+
+module _ (g : Geometry) (f : Fuse) (img : List ℕ) (r : ℕ) (e : r ≡ checkOf g (length img)) where
+  pub storage-stop : (r ≡ 0 → ⊥) → run f (formatStorage g) img ≡ record { answer = refused r; fuse = f; state = img }
+  unfolding formatStorage
+  storage-stop h = test-stop f (λ i. checkOf g (length i)) _ img r e h
+
+  pub storage-on : r ≡ 0 → run f (formatStorage g) img ≡ run f (formatFrom (g .count - 0) g 0) img
+  unfolding formatStorage
+  storage-on z = let m : g .count - 0 ≡ g .count = omega arith in rw m (test-on f (λ i. checkOf g (length i)) _ img r e z)
+
+-- ---- with power a format is refused by its plan alone
+
+-- a header is whole units, and every block has room for it
+length-header : (g : Geometry) (n : ℕ) → length (headerBytes g (undefined n)) ≡ blockHeader (g .granularity)
+unfolding headerBytes
+length-header g n = go (g .granularity)
+  where
+    go : (k : Granularity) → length (take (blockHeader k) (wideBytes g (Known Undefined) n)) ≡ blockHeader k
+    go Bit = refl
+    go Word1 = refl
+    go Word4 = refl
+
+label-writes : (g : Geometry) (b n room : ℕ) → erasable g room b ≡ 0 → writable g room b 0 (length (headerBytes g (undefined n))) ≡ 0
+unfolding writable
+label-writes g b n room e =
+    let k = g .granularity in
+    let f = reach-fine g room b (erasable g room b) refl e in
+    let l = length-header g n in
+    let a : alignOf (widthOf k) (blockHeader k) ≡ blockHeader k = even-align k (blockHeader k) (headed k .block-even) in
+    let h : 0 + blockHeader k ≤ g .size = omega (arith, f .sound .least, headed k .block-short) in
+    let z : 0 % widthOf k ≡ 0 = zero-mod k in
+    admit-pass g room _ (checkOf g room) refl (reach-checked g room b e)
+    ∙ rw (lt-ltb _ _ (reach-below g room b (erasable g room b) refl e), z, l, a, le-leb _ _ h)
+  where
+    zero-mod : (k : Granularity) → 0 % widthOf k ≡ 0
+    zero-mod Bit = omega arith
+    zero-mod Word1 = omega arith
+    zero-mod Word4 = omega arith
+
+label-done : (g : Geometry) (b n : ℕ) (img : List ℕ) → erasable g (length img) b ≡ 0 → labelling g b n img .answer ≡ done tt
+unfolding labelling writeHeader write putting
+label-done g b n img e = rw (label-writes g b n (length img) e)
+
+renew-done : (g : Geometry) (b n : ℕ) (img : List ℕ) → erasable g (length img) b ≡ 0 → renewing g b n img .answer ≡ done tt
+unfolding renewing erase putting _>>=_
+renew-done g b n img e =
+    let l : length (under (b * g .size) (blank (g .size)) img) ≡ length img = length-erased (b * g .size) (g .size) img in
+    rw e (label-done g b n (under (b * g .size) (blank (g .size)) img) (rw l e))
+
+-- the answer with power is that of the plan's stores
+format-answer : (g : Geometry) (b : ℕ) (img : List ℕ) (p : Plan) → planAt g b img ≡ p → formatBlock g b img .answer ≡ carryOut g b p img .answer
+unfolding formatBlock _>>=_ ask
+format-answer g b img p e = rw e
+
+-- where there is a plan, the block can be reached
+planned : (g : Geometry) (b : ℕ) (img : List ℕ) (p : Plan) → planAt g b img ≡ p → ((k : ℕ) → p ≡ plan.Refused k → ⊥) → erasable g (length img) b ≡ 0
+unfolding planAt blockHeaderAt
+planned g b img p e n = go (readAt g b 0 12 img) refl e
+  where
+    go : (a : Answer (List ℕ)) → readAt g b 0 12 img ≡ a → planBy g b img (andThen a (λ bs. done (headerIn g bs))) ≡ p → erasable g (length img) b ≡ 0
+    go (done bs) q h = sym (reach-reads g (length img) b 0 12 (λ s. omega (arith, sound-is g s .least))) ∙ readable-of g b 0 12 img bs q
+    go (refused k) q h = absurd (n k (sym h))
+
+pub format-refused : (g : Geometry) (b : ℕ) (img : List ℕ) (k : ℕ) → planAt g b img ≡ plan.Refused k → formatBlock g b img .answer ≡ refused k
+unfolding ask
+format-refused g b img k e = format-answer g b img (plan.Refused k) e
+
+pub format-kept : (g : Geometry) (b : ℕ) (img : List ℕ) → planAt g b img ≡ plan.Keep → formatBlock g b img .answer ≡ done tt
+unfolding ask
+format-kept g b img e = format-answer g b img plan.Keep e
+
+pub format-labelled : (g : Geometry) (b : ℕ) (img : List ℕ) → planAt g b img ≡ plan.Label → formatBlock g b img .answer ≡ done tt
+format-labelled g b img e = format-answer g b img plan.Label e ∙ label-done g b 0 img (planned g b img plan.Label e (λ k h. let z : _≡_ {A = ℕ} 0 1 = cc in absurd (omega arith)))
+
+pub format-renewed : (g : Geometry) (b : ℕ) (img : List ℕ) (n : ℕ) → planAt g b img ≡ plan.Renew n → formatBlock g b img .answer ≡ done tt
+format-renewed g b img n e = format-answer g b img (plan.Renew n) e ∙ renew-done g b n img (planned g b img (plan.Renew n) e (λ k h. let z : _≡_ {A = ℕ} 0 1 = cc in absurd (omega arith)))

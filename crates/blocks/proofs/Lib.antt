@@ -1,0 +1,4 @@
+pub mod Headers
+pub mod Formats
+pub mod Records
+pub mod Scans

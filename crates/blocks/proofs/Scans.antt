@@ -1,0 +1,138 @@
+-- A scan: the last written byte, and what each step of a listing leaves to be listed.
+use mathlib.Core.Path.{_≡_, refl, sym, ap, _∙_}
+use Prim.Native.Nat.{ℕ, zero, suc, _+_, _-_, _*_, _≤_, _<_}
+use native.Mathlib.Nat.{le-of-suc-le-suc, not-suc-le-zero, zero-add, add-assoc}
+use native.Mathlib.Omega.{arith}
+use mathlib.Core.Bool.{Bool, true, false, not}
+use mathlib.Core.List.{List, [], _∷_}
+use lib.ListN.{length, getD, take, drop}
+use lib.Dec.{leb, eqb}
+use borrow.Author.Tests.{eq-eqb, ne-eqb}
+use Rattle.medium.specs.declared.granularity.Granularity.{Granularity}
+use Rattle.medium.specs.declared.geometry.Geometry.{Geometry}
+use Rattle.medium.specs.Granularity.{pick, widthOf, header}
+use Rattle.medium.specs.Geometry.{geometryOk, checkOf, address}
+use Rattle.medium.specs.Operation.{Answer, done, refused, andThen, orRefuse}
+use Rattle.medium.specs.Medium.{part, erasable}
+use Rattle.medium.proofs.Bytes.{fits-up}
+use Rattle.medium.proofs.Places.{width-is}
+use Rattle.medium.proofs.Checks.{fine-of-check}
+use Rattle.objects.specs.declared.header.ObjectHeader.{ObjectHeader}
+use Rattle.objects.specs.declared.iterator.ObjectIterator.{ObjectIterator}
+use Rattle.objects.specs.declared.iterator.Next.{Next}
+use Rattle.objects.specs.declared.iterator.Next.the-variants as next
+use Rattle.objects.specs.Info.{totalOf, spanOf}
+use Rattle.objects.specs.Listing.{nextOf, Listing, listBy, listFrom}
+use Rattle.objects.proofs.Answers.{or-on, then-on}
+use Rattle.objects.proofs.Listing.{unroll, next-found}
+use Rattle.blocks.specs.declared.header.BlockHeaderKind.{BlockHeaderKind}
+use Rattle.blocks.specs.declared.header.BlockHeader.{BlockHeader}
+use Rattle.blocks.specs.declared.record.BlockInfo.{BlockInfo}
+use Rattle.blocks.specs.Scan.{behindWritten, writtenIn, recordOf, scanUnknown, isAllocated, lastAllocated, listed, isFreeable, freeableIn, freeable, scanBy, scanBlock}
+use Rattle.blocks.specs.BlockHeader.{blockHeaderAt}
+use Rattle.blocks.proofs.Formats.{read-reached, read-unreached}
+
+-- ---- the last written byte
+
+-- a byte FF at the end changes nothing
+pub written-blank : (n : ℕ) (l : List ℕ) → n < length l → getD l n 0 ≡ 255 → writtenIn (take (suc n) l) ≡ writtenIn (take n l)
+written-blank n [] h e = absurd (not-suc-le-zero h)
+written-blank zero (b ∷ l) h e = rw (eq-eqb b 255 e)
+written-blank (suc n) (b ∷ l) h e = ap (λ (m : ℕ). behindWritten b m) (written-blank n l (le-of-suc-le-suc h) e)
+
+-- and a byte that is not FF is the last written one
+pub written-last : (n : ℕ) (l : List ℕ) → n < length l → (getD l n 0 ≡ 255 → ⊥) → writtenIn (take (suc n) l) ≡ suc n
+written-last n [] h e = absurd (not-suc-le-zero h)
+written-last zero (b ∷ l) h e = rw (ne-eqb b 255 e)
+written-last (suc n) (b ∷ l) h e = ap (λ (m : ℕ). behindWritten b m) (written-last n l (le-of-suc-le-suc h) e)
+
+-- the same as a loop from the end has it
+pub written-less : (n : ℕ) (l : List ℕ) → 0 < n → n ≤ length l → getD l (n - 1) 0 ≡ 255 → writtenIn (take n l) ≡ writtenIn (take (n - 1) l)
+written-less zero l p h e = absurd (omega arith)
+written-less (suc n) l p h e = let m : suc n - 1 ≡ n = omega arith in rw m (written-blank n l h (rw m at e))
+
+pub written-here : (n : ℕ) (l : List ℕ) → 0 < n → n ≤ length l → (getD l (n - 1) 0 ≡ 255 → ⊥) → writtenIn (take n l) ≡ n
+written-here zero l p h e = absurd (omega arith)
+written-here (suc n) l p h e = let m : suc n - 1 ≡ n = omega arith in written-last n l h (rw m at e)
+
+-- the place is within the bytes
+pub written-most : (l : List ℕ) → writtenIn l ≤ length l
+written-most [] = omega arith
+written-most (b ∷ l) = go b (writtenIn l) (written-most l)
+  where
+    first : (t : Bool) → pick {A = ℕ} t 0 1 ≤ suc (length l)
+    first true = omega arith
+    first false = omega arith
+
+    go : (b m : ℕ) → m ≤ length l → behindWritten b m ≤ suc (length l)
+    go b zero h = first (eqb b 255)
+    go b (suc m) h = omega arith
+
+module _ (g : Geometry) (b : ℕ) (h : BlockHeader) (img : List ℕ) (r : ℕ) (e : r ≡ erasable g (length img) b) where
+  whole : geometryOk g ≡ true → 0 + g .size ≤ g .size
+  whole q = omega arith
+
+  pub unknown-unreached : (r ≡ 0 → ⊥) → scanUnknown g b h img ≡ refused r
+  unfolding scanUnknown
+  unknown-unreached z = rw (read-unreached g b 0 (g .size) img r whole e z)
+
+  pub unknown-told : (a n m : ℕ) → a ≡ b * g .size → n ≡ g .size → m ≡ writtenIn (take n (drop a img)) → r ≡ 0 → scanUnknown g b h img ≡ done (recordOf h m false)
+  unfolding scanUnknown
+  unknown-told a n m ea en em z =
+      let o : b * g .size + 0 ≡ b * g .size = omega arith in
+      rw (read-reached g b 0 (g .size) img r whole e z, em, en, ea, o)
+
+-- ---- listing, step by step
+
+module _ (g : Geometry) (img : List ℕ) (c : checkOf g (length img) ≡ 0) (i : ObjectIterator) (n : Next) (e : n ≡ nextOf g i img) where
+  rest : listFrom (g .size) g i img ≡ listBy n i (λ j. listFrom (g .size) g j img)
+  rest =
+      let f = fine-of-check g (length img) (checkOf g (length img)) refl c in
+      unroll g i img (or-on (checkOf g (length img)) (checkOf g (length img)) refl c) (omega (arith, f .sound .least)) ∙ rw (← e)
+
+  -- a listing by its first step
+  pub list-by : (m : Next) → n ≡ m → listFrom (g .size) g i img ≡ listBy m i (λ j. listFrom (g .size) g j img)
+  list-by m d = rest ∙ rw d
+
+  module _ (h : BlockHeader) (a : Bool) where
+    pub scan-more : (o : ObjectHeader) (j : ObjectIterator) → n ≡ next.Object o j → listed h a (listFrom (g .size) g i img) ≡ listed h (isAllocated o) (listFrom (g .size) g j img)
+    scan-more o j d = ap (λ (l : Listing). listed h a l) (list-by (next.Object o j) d)
+
+    pub scan-free : n ≡ next.Free → listed h a (listFrom (g .size) g i img) ≡ done (recordOf h (i .location .offset) (not a))
+    scan-free d = ap (λ (l : Listing). listed h a l) (list-by next.Free d)
+
+    pub scan-end : n ≡ next.End → listed h a (listFrom (g .size) g i img) ≡ done (recordOf h (i .location .offset) (not a))
+    scan-end d = ap (λ (l : Listing). listed h a l) (list-by next.End d)
+
+    pub scan-broken : (k : ℕ) → n ≡ next.Refused k → listed h a (listFrom (g .size) g i img) ≡ refused k
+    scan-broken k d = ap (λ (l : Listing). listed h a l) (list-by (next.Refused k) d)
+
+  module _ (m : ℕ) where
+    more-by : (o : ObjectHeader) (l : Listing) (j : ObjectIterator) → freeable g m (listBy (next.Object o j) i (λ j. l)) ≡ freeable g (m + pick (isFreeable o) (totalOf (g .granularity) (g .s) o) 0) l
+    more-by o l j = rw (add-assoc m (pick (isFreeable o) (totalOf (g .granularity) (g .s) o) 0) (freeableIn (g .granularity) (g .s) (l .visits)))
+
+    pub sum-more : (o : ObjectHeader) (j : ObjectIterator) → n ≡ next.Object o j
+        → freeable g m (listFrom (g .size) g i img) ≡ freeable g (m + pick (isFreeable o) (totalOf (g .granularity) (g .s) o) 0) (listFrom (g .size) g j img)
+    sum-more o j d = ap (λ (l : Listing). freeable g m l) (list-by (next.Object o j) d) ∙ more-by o (listFrom (g .size) g j img) j
+
+    pub sum-free : n ≡ next.Free → freeable g m (listFrom (g .size) g i img) ≡ pick (leb (i .location .offset) (g .size)) (done (g .size - i .location .offset + m)) (refused 9)
+    sum-free d = let z : m + 0 ≡ m = omega arith in ap (λ (l : Listing). freeable g m l) (list-by next.Free d) ∙ rw z
+
+    pub sum-end : n ≡ next.End → freeable g m (listFrom (g .size) g i img) ≡ pick (leb (i .location .offset) (g .size)) (done (g .size - i .location .offset + m)) (refused 9)
+    sum-end d = let z : m + 0 ≡ m = omega arith in ap (λ (l : Listing). freeable g m l) (list-by next.End d) ∙ rw z
+
+    pub sum-broken : (k : ℕ) → n ≡ next.Refused k → freeable g m (listFrom (g .size) g i img) ≡ refused k
+    sum-broken k d = ap (λ (l : Listing). freeable g m l) (list-by (next.Refused k) d)
+
+-- what an object frees is no more than the room that it takes
+pub freed-most : (k : Granularity) (s : ℕ) (o : ObjectHeader) → pick (isFreeable o) (totalOf k s o) 0 ≤ spanOf k s o
+freed-most k s o = go (isFreeable o)
+  where
+    go : (t : Bool) → pick t (totalOf k s o) 0 ≤ spanOf k s o
+    go true = fits-up (widthOf k) (width-is k .0) (totalOf k s o)
+    go false = omega arith
+
+-- the scan of a block whose header was read, by its kind
+pub scan-by : (g : Geometry) (b : ℕ) (h : BlockHeader) (img : List ℕ) (k : BlockHeaderKind) → blockHeaderAt g b img ≡ done h → h .kind ≡ k → scanBlock g b img ≡ scanBy g b h img k
+unfolding scanBlock
+scan-by g b h img k e q = then-on (blockHeaderAt g b img) (λ v. scanBy g b v img (v .kind)) h e ∙ ap (λ (x : BlockHeaderKind). scanBy g b h img x) q

@@ -1,0 +1,5 @@
+pub mod BlockHeader
+pub mod Format
+pub mod Record
+pub mod Scan
+pub mod Rows

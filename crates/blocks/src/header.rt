@@ -1,0 +1,375 @@
+// The header of a block: what kind of block it is, and how often it was erased.
+use medium::fuse::Answered;
+use medium::fuse::Fuse;
+use medium::fuse::Stored;
+use medium::geometry::Geometry;
+use medium::granularity::Granularity;
+ghost use mathlib.Core.Path.{_≡_};
+ghost use Prim.Native.Nat.{_≤_};
+ghost use lib.ListN.{length};
+ghost use Rattle.medium.specs.Operation.{run, ended};
+ghost use Rattle.blocks.specs.BlockHeader.{typeByte, typeNumber, kindNumber, isEmptyKind, isKnown, isUnknown, isEmpty, layoutByte, typeIf, wideBytes, writeHeader, padded, unnamed, marked, blank, kindOfType, namedKind, kindIn, eraseCountIn, headerAnswer, headerNumber, blockHeaderAt};
+ghost use Rattle.blocks.specs.Record.{kindOf, kindAnswer, kindReadNumber};
+
+pub enum BlockType {
+    Metadata,
+    Data,
+    // Freshly formatted: it can become either.
+    Undefined,
+}
+
+impl BlockType {
+    pub const METADATA: u8 = 0x55;
+
+    pub const DATA: u8 = 0xAA;
+
+    pub const UNDEFINED: u8 = 0xFF;
+
+    pub fn byte(self) -> u8
+        ensures { λ r. ⌜ r ≡ typeByte self ⌝ }
+    {
+        match self {
+            BlockType::Metadata => Self::METADATA,
+            BlockType::Data => Self::DATA,
+            BlockType::Undefined => Self::UNDEFINED,
+        }
+    }
+
+    // The number of a Known kind of this type.
+    fn number(self) -> u32
+        ensures { λ r. ⌜ r ≡ typeNumber self ⌝ }
+    {
+        match self {
+            BlockType::Metadata => 2,
+            BlockType::Data => 3,
+            BlockType::Undefined => 4,
+        }
+    }
+}
+
+pub enum BlockHeaderKind {
+    Empty,
+    Unknown,
+    Known(BlockType),
+}
+
+// What a kind's number says.
+pub enum KindRead {
+    Got(BlockHeaderKind),
+    Refused(u8),
+}
+
+impl KindRead {
+    pub fn number(self) -> u8
+        ensures { λ r. ⌜ r ≡ kindReadNumber self ⌝ }
+    {
+        match self {
+            KindRead::Got(_) => 0,
+            KindRead::Refused(k) => k,
+        }
+    }
+}
+
+impl BlockHeaderKind {
+    pub fn is_empty(self) -> bool
+        ensures { λ r. ⌜ r ≡ isEmptyKind self ⌝ }
+    {
+        match self {
+            BlockHeaderKind::Empty => true,
+            BlockHeaderKind::Unknown => false,
+            BlockHeaderKind::Known(_) => false,
+        }
+    }
+
+    pub fn is_known(self) -> bool
+        ensures { λ r. ⌜ r ≡ isKnown self ⌝ }
+    {
+        match self {
+            BlockHeaderKind::Empty => false,
+            BlockHeaderKind::Unknown => false,
+            BlockHeaderKind::Known(_) => true,
+        }
+    }
+
+    pub fn is_unknown(self) -> bool
+        ensures { λ r. ⌜ r ≡ isUnknown self ⌝ }
+    {
+        match self {
+            BlockHeaderKind::Empty => false,
+            BlockHeaderKind::Unknown => true,
+            BlockHeaderKind::Known(_) => false,
+        }
+    }
+
+    // 0 Empty, 1 Unknown, 2 Metadata, 3 Data, 4 Undefined.
+    pub fn number(self) -> u32
+        ensures { λ r. ⌜ r ≡ kindNumber self ⌝ }
+    {
+        match self {
+            BlockHeaderKind::Empty => 0,
+            BlockHeaderKind::Unknown => 1,
+            BlockHeaderKind::Known(t) => t.number(),
+        }
+    }
+
+    pub fn of_number(n: u32) -> KindRead
+        ensures { λ r. ⌜ kindAnswer r ≡ kindOf n ⌝ }
+    {
+        match n {
+            0 => KindRead::Got(BlockHeaderKind::Empty),
+            1 => KindRead::Got(BlockHeaderKind::Unknown),
+            2 => KindRead::Got(BlockHeaderKind::Known(BlockType::Metadata)),
+            3 => KindRead::Got(BlockHeaderKind::Known(BlockType::Data)),
+            4 => KindRead::Got(BlockHeaderKind::Known(BlockType::Undefined)),
+            _ => KindRead::Refused(4),
+        }
+    }
+
+    fn of_type(b: u8) -> BlockHeaderKind
+        ensures { λ r. ⌜ r ≡ kindOfType b ⌝ }
+    {
+        match b {
+            BlockType::METADATA => BlockHeaderKind::Known(BlockType::Metadata),
+            BlockType::DATA => BlockHeaderKind::Known(BlockType::Data),
+            BlockType::UNDEFINED => BlockHeaderKind::Known(BlockType::Undefined),
+            _ => BlockHeaderKind::Unknown,
+        }
+    }
+
+    // What the bytes say, the erase count apart.
+    fn from_bytes(g: Geometry, raw: &[u8]) -> BlockHeaderKind
+        requires { ⌜ length (now raw) ≡ 12 ⌝ }
+        requires { ⌜ (g .s ≤ 3) × (g .c ≤ 3) ⌝ }
+        ensures { λ r. ⌜ r ≡ kindIn g (now (raw .entry)) ⌝ }
+    {
+        let k = g.granularity;
+        let at = k.type_at();
+        let t = raw[at];
+        if is_unnamed(k, raw) {
+            return BlockHeaderKind::named(raw, layout(g), t);
+        }
+        BlockHeaderKind::Unknown
+    }
+
+    // The same by the bytes that are named, with the type t.
+    fn named(raw: &[u8], layout: u8, t: u8) -> BlockHeaderKind
+        requires { ⌜ length (now raw) ≡ 12 ⌝ }
+        ensures { λ r. ⌜ r ≡ namedKind layout t (now (raw .entry)) ⌝ }
+    {
+        if is_marked(raw, layout) {
+            return BlockHeaderKind::of_type(t);
+        }
+        if is_blank(raw, t) {
+            return BlockHeaderKind::Empty;
+        }
+        BlockHeaderKind::Unknown
+    }
+}
+
+// The layout byte: the field widths, and whether words are programmed.
+fn layout(g: Geometry) -> u8
+    requires { ⌜ (g .s ≤ 3) × (g .c ≤ 3) ⌝ }
+    ensures { λ r. ⌜ r ≡ layoutByte g ⌝ }
+{
+    let k = g.granularity;
+    g.s * 64 + g.c * 4 + k.layout_bit()
+}
+
+// Whether the bytes that no rule names are FF: Word(4) alone has such bytes.
+fn is_unnamed(k: Granularity, raw: &[u8]) -> bool
+    requires { ⌜ length (now raw) ≡ 12 ⌝ }
+    ensures { λ r. ⌜ r ≡ unnamed k (now (raw .entry)) ⌝ }
+{
+    match k {
+        Granularity::Bit => true,
+        Granularity::Word1 => true,
+        Granularity::Word4 => is_padded(raw),
+    }
+}
+
+fn is_padded(raw: &[u8]) -> bool
+    requires { ⌜ length (now raw) ≡ 12 ⌝ }
+    ensures { λ r. ⌜ r ≡ padded (now (raw .entry)) ⌝ }
+{
+    if raw[3] != 0xFF {
+        return false;
+    }
+    if raw[9] != 0xFF {
+        return false;
+    }
+    if raw[10] != 0xFF {
+        return false;
+    }
+    raw[11] == 0xFF
+}
+
+// Whether a header begins as that of a formatted block.
+fn is_marked(raw: &[u8], layout: u8) -> bool
+    requires { ⌜ length (now raw) ≡ 12 ⌝ }
+    ensures { λ r. ⌜ r ≡ marked layout (now (raw .entry)) ⌝ }
+{
+    if raw[0] != 0xBA {
+        return false;
+    }
+    if raw[1] != 0x01 {
+        return false;
+    }
+    raw[2] == layout
+}
+
+// Whether all that is named is FF, the type t too.
+fn is_blank(raw: &[u8], t: u8) -> bool
+    requires { ⌜ length (now raw) ≡ 12 ⌝ }
+    ensures { λ r. ⌜ r ≡ blank (now (raw .entry)) t ⌝ }
+{
+    if raw[0] != 0xFF {
+        return false;
+    }
+    if raw[1] != 0xFF {
+        return false;
+    }
+    if raw[2] != 0xFF {
+        return false;
+    }
+    t == 0xFF
+}
+
+// The erase count, low byte first.
+fn count(raw: &[u8]) -> u32
+    requires { ⌜ length (now raw) ≡ 12 ⌝ }
+    ensures { λ r. ⌜ r ≡ eraseCountIn (now (raw .entry)) ⌝ }
+{
+    let a = raw[4] as u32;
+    let b = raw[5] as u32;
+    let c = raw[6] as u32;
+    let d = raw[7] as u32;
+    a + 256 * (b + 256 * (c + 256 * d))
+}
+
+// The type at its place, and FF at the other one.
+fn type_if(k: Granularity, at: usize, t: BlockType) -> u8
+    ensures { λ r. ⌜ r ≡ typeIf k at t ⌝ }
+{
+    if k.type_at() == at { t.byte() } else { 0xFF }
+}
+
+pub struct BlockHeader {
+    pub kind: BlockHeaderKind,
+    pub erase_count: u32,
+}
+
+pub enum BlockHeaderRead {
+    Got(BlockHeader),
+    Refused(u8),
+}
+
+impl BlockHeaderRead {
+    pub fn number(self) -> u8
+        ensures { λ r. ⌜ r ≡ headerNumber self ⌝ }
+    {
+        match self {
+            BlockHeaderRead::Got(_) => 0,
+            BlockHeaderRead::Refused(k) => k,
+        }
+    }
+}
+
+impl BlockHeader {
+    fn read_into(g: Geometry, image: &[u8], block: u32, raw: &mut [u8]) -> BlockHeaderRead
+        requires { ⌜ length (now raw) ≡ 12 ⌝ }
+        ensures { λ r. ⌜ headerAnswer r ≡ blockHeaderAt g block (now (image .entry)) ⌝ }
+    {
+        let a = medium::read(g, image, block, 0, raw);
+        let Answered::Done = a else {
+            return BlockHeaderRead::Refused(a.number());
+        };
+        let n = count(raw);
+        BlockHeaderRead::Got(BlockHeader {
+            kind: BlockHeaderKind::from_bytes(g, raw),
+            erase_count: n,
+        })
+    }
+
+    pub fn read(g: Geometry, image: &[u8], block: u32) -> BlockHeaderRead
+        ensures { λ r. ⌜ headerAnswer r ≡ blockHeaderAt g block (now (image .entry)) ⌝ }
+    {
+        let mut buffer = [0u8; 12];
+        BlockHeader::read_into(g, image, block, &mut buffer)
+    }
+
+    // Twelve bytes, of which a header of 8 is the first.
+    fn into_bytes(self, g: Geometry) -> [u8; 12]
+        requires { ⌜ (g .s ≤ 3) × (g .c ≤ 3) ⌝ }
+        ensures { λ r. ⌜ r ≡ wideBytes g (self .kind) (self .«erase_count») ⌝ }
+    {
+        let n = self.erase_count;
+        let second = n / 256;
+        let third = second / 256;
+        let a = (n % 256) as u8;
+        let b = (second % 256) as u8;
+        let c = (third % 256) as u8;
+        let d = (third / 256 % 256) as u8;
+        let kind = self.kind;
+        match kind {
+            BlockHeaderKind::Empty => [0xFF, 0xFF, 0xFF, 0xFF, a, b, c, d, 0xFF, 0xFF, 0xFF, 0xFF],
+            BlockHeaderKind::Unknown => [
+                0xFF,
+                0xFF,
+                0xFF,
+                0xFF,
+                a,
+                b,
+                c,
+                d,
+                0xFF,
+                0xFF,
+                0xFF,
+                0xFF,
+            ],
+            BlockHeaderKind::Known(t) => {
+                let k = g.granularity;
+                let near = type_if(k, 3, t);
+                let far = type_if(k, 8, t);
+                [
+                    0xBA,
+                    0x01,
+                    layout(g),
+                    near,
+                    a,
+                    b,
+                    c,
+                    d,
+                    far,
+                    0xFF,
+                    0xFF,
+                    0xFF,
+                ]
+            }
+        }
+    }
+
+    // Programs the header, or refuses as any store does.
+    pub fn write(self, g: Geometry, image: &mut [u8], f: Fuse, block: u32) -> Stored
+        ensures { λ r. ⌜ ended r (now (image .exit)) ≡ run f (writeHeader g block self) (now (image .entry)) ⌝ }
+    {
+        let bad = medium::geometry::check(g, image.len());
+        if bad != 0 {
+            return Stored::Refused(bad, f);
+        }
+        let raw = self.into_bytes(g);
+        let k = g.granularity;
+        let n = k.block_header();
+        medium::write(g, image, f, block, 0, &raw[..n])
+    }
+
+    // Erased throughout: an empty kind, and no erase count either.
+    pub fn is_empty(self) -> bool
+        ensures { λ r. ⌜ r ≡ isEmpty self ⌝ }
+    {
+        let kind = self.kind;
+        if kind.is_empty() {
+            return self.erase_count == 4294967295;
+        }
+        false
+    }
+}

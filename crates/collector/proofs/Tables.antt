@@ -1,0 +1,58 @@
+-- The test of the table, record by record, and what a passed test tells.
+use mathlib.Core.Path.{_≡_, refl, sym, ap, _∙_}
+use mathlib.Core.Bool.{Bool, true, false}
+use mathlib.Core.List.{List}
+use Prim.Native.Nat.{ℕ, zero, suc, _+_, _-_, _*_, _≤_, _<_}
+use native.Mathlib.Omega.{arith}
+use lib.ListN.{length}
+use lib.Dec.{eqb}
+use borrow.Author.Tests.{eq-eqb, ne-eqb, eqb-true}
+use Rattle.medium.specs.declared.geometry.Geometry.{Geometry}
+use Rattle.medium.specs.Granularity.{pick}
+use Rattle.medium.specs.Geometry.{admit, checkOf}
+use Rattle.medium.specs.Operation.{Answer, done, refused, andThen, numberOf}
+use Rattle.medium.proofs.Checks.{admit-stop, admit-pass, admitted, picked}
+use Rattle.blocks.specs.declared.record.BlockInfo.{BlockInfo}
+use Rattle.blocks.proofs.Headers.{passed}
+use Rattle.collector.specs.Table.{recordAt, possibleFrom, collectable}
+
+-- ---- record by record
+
+module _ (n b : ℕ) (t : List ℕ) (h : b < n) (a : Answer BlockInfo) (e : a ≡ recordAt t b) where
+  pub possible-more : (r : BlockInfo) → a ≡ done r → possibleFrom (n - b) t b ≡ possibleFrom (n - (b + 1)) t (b + 1)
+  unfolding possibleFrom
+  possible-more r d = let m : n - b ≡ suc (n - (b + 1)) = omega arith in rw (m, ← e, d)
+
+  pub possible-stop : (k : ℕ) → a ≡ refused k → possibleFrom (n - b) t b ≡ refused k
+  unfolding possibleFrom
+  possible-stop k d = let m : n - b ≡ suc (n - (b + 1)) = omega arith in rw (m, ← e, d)
+
+pub possible-end : (n b : ℕ) (t : List ℕ) → n ≤ b → possibleFrom (n - b) t b ≡ done tt
+unfolding possibleFrom
+possible-end n b t h = let m : n - b ≡ 0 = omega arith in rw m
+
+-- ---- the whole test
+
+module _ (g : Geometry) (room r : ℕ) (t : List ℕ) (e : r ≡ checkOf g room) where
+  pub collect-bad : (r ≡ 0 → ⊥) → r ≡ collectable g room t
+  unfolding collectable
+  collect-bad h = admit-stop g room _ r e h
+
+  pub collect-room : r ≡ 0 → (4 * g .count ≡ length t → ⊥) → 7 ≡ collectable g room t
+  unfolding collectable
+  collect-room z h = sym (admit-pass g room _ r e z ∙ rw (ne-eqb _ _ h))
+
+  pub collect-rows : r ≡ 0 → 4 * g .count ≡ length t → numberOf (possibleFrom (g .count) t 0) ≡ collectable g room t
+  unfolding collectable
+  collect-rows z h = sym (admit-pass g room _ r e z ∙ rw (eq-eqb _ _ h))
+
+-- geometry and room are sound, and there is a record for each block
+pub collect-checked : (g : Geometry) (room r : ℕ) (t : List ℕ) → r ≡ collectable g room t → r ≡ 0 → checkOf g room ≡ 0
+unfolding collectable
+collect-checked g room r t e z = passed g room _ (sym e ∙ z)
+
+pub rows-of : (g : Geometry) (room r : ℕ) (t : List ℕ) → r ≡ collectable g room t → r ≡ 0 → 4 * g .count ≡ length t
+unfolding collectable
+rows-of g room r t e z =
+    let a = admitted g room (pick (eqb (4 * g .count) (length t)) (numberOf (possibleFrom (g .count) t 0)) 7) (sym e ∙ z) in
+    eqb-true _ _ (picked (eqb (4 * g .count) (length t)) (numberOf (possibleFrom (g .count) t 0)) 6 (a .1) .0)
