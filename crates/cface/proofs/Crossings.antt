@@ -2,18 +2,21 @@
 use mathlib.Core.Path.{_≡_, refl, sym, ap, _∙_}
 use mathlib.Core.Bool.{Bool, true, false}
 use Prim.Native.Nat.{ℕ, zero, suc}
+use native.Mathlib.Omega.{arith}
 use Rattle.medium.specs.declared.geometry.Geometry.{Geometry}
 use Rattle.medium.specs.declared.fuse.Fuse.{Fuse}
 use Rattle.medium.specs.declared.fuse.Stored.{Stored}
 use Rattle.medium.specs.declared.fuse.Stored.the-variants.{Done, Refused}
 use Rattle.medium.specs.declared.fuse.Answered.{Answered}
 use Rattle.medium.specs.declared.fuse.Answered.the-variants as heard
+use Rattle.medium.specs.Geometry.{fitOf}
 use Rattle.medium.specs.Fuse.{storedNumber, answeredNumber}
-use Rattle.medium.specs.Operation.{World, OpIn, EndIn, Answer, done, refused, andThen, run, endedBy, orRefuse, numberOf, answered, unlessDone}
+use Rattle.medium.specs.Operation.{World, OpIn, EndIn, Answer, done, refused, andThen, run, endedBy, orRefuse, numberOf, answered, unlessDone, unlessStored}
 use Rattle.medium.proofs.Runs.{ask-on, ask-stop}
+use Rattle.medium.proofs.Checks.{Sound, fit-sound}
 use Rattle.cface.specs.declared.crossing.GeometryRead.{GeometryRead}
 use Rattle.cface.specs.declared.crossing.GeometryRead.the-variants as geometry
-use Rattle.cface.specs.Crossing.{geometryAnswer, geometryNumber, fuseOf, under, Crossing, crossed, crossing, unitsLeft, unitsAfter, kept}
+use Rattle.cface.specs.Crossing.{geometryOf, geometryAlone, geometryAnswer, geometryNumber, fuseOf, under, Crossing, crossed, crossing, unitsLeft, unitsAfter, kept, CrossingWith, crossedWith, crossingWith}
 
 -- the geometry came in, or its byte names none
 module _ (a : Answer Geometry) (t : GeometryRead) (e : geometryAnswer t ≡ a) where
@@ -22,6 +25,19 @@ module _ (a : Answer Geometry) (t : GeometryRead) (e : geometryAnswer t ≡ a) w
 
   pub named-none : {k n : ℕ} → t ≡ geometry.Refused k → n ≡ geometryNumber t → a ≡ refused n
   named-none d q = rw (q, d) (sym e ∙ ap geometryAnswer d)
+
+-- a geometry that passed its test is sound
+pub alone-sound : (b s c size count : ℕ) (g : Geometry) → geometryAlone b s c size count ≡ done g → Sound g
+unfolding geometryAlone
+alone-sound b s c size count g e = go (geometryOf b s c size count) e
+  where
+    more : (x : Geometry) (r : ℕ) → fitOf x ≡ r → andThen (orRefuse r) (λ _. done x) ≡ done g → Sound g
+    more x zero q h = let z : x ≡ g = cc in rw z at (fit-sound x 0 (sym q) refl)
+    more x (suc r) q h = let z : _≡_ {A = ℕ} 0 1 = cc in absurd (omega arith)
+
+    go : (a : Answer Geometry) → andThen a (λ x. andThen (orRefuse (fitOf x)) (λ _. done x)) ≡ done g → Sound g
+    go (done x) h = more x (fitOf x) refl h
+    go (refused n) h = let z : _≡_ {A = ℕ} 0 1 = cc in absurd (omega arith)
 
 -- ---- a question
 
@@ -68,3 +84,27 @@ pub heard-kept : {A : Type 0} (r : Answered) (n : ℕ) (before after : A) → n 
     → (n ≡ numberOf (answered r after)) × (after ≡ kept (answered r after) before)
 heard-kept heard.Done n before after e q = (e, refl)
 heard-kept (heard.Refused k) n before after e q = (e, q)
+
+-- ---- a value that came in, one after the other
+
+module _ {W : World} {X A : Type 0} (f : Fuse) (a : Answer X) (o : X → OpIn W A) (s : W .State) where
+  pub under-on : {x : X} → a ≡ done x → run f (under a o) s ≡ run f (o x) s
+  unfolding under
+  under-on d = ask-on {W = W} f (λ _. a) o s d
+
+  pub under-stop : {n : ℕ} → a ≡ refused n → run f (under a o) s ≡ record { answer = refused n; fuse = f; state = s }
+  unfolding under
+  under-stop d = ask-stop {W = W} f (λ _. a) o s d
+
+-- ---- a store with a value beside its number
+
+module _ {S A B : Type 0} (e : EndIn S A) (k : A → B) (u : ℕ) (b : B) where
+  pub with-on : (r : Stored) (x : A) (after : S) (n v : ℕ) (w : B) → endedBy r x after ≡ e → n ≡ storedNumber r → v ≡ unitsAfter r u → w ≡ unlessStored r b (k x)
+      → crossedWith n v after w ≡ crossingWith k u b e
+  unfolding crossingWith unitsAfter
+  with-on (Done f) x after n v w h en ev ew = rw (← h, en, ev, ew)
+  with-on (Refused m f) x after n v w h en ev ew = rw (← h, en, ev, ew)
+
+  pub with-stop : (fused : Bool) (n : ℕ) (s : S) → e ≡ record { answer = refused n; fuse = fuseOf fused u; state = s } → crossedWith n u s b ≡ crossingWith k u b e
+  unfolding crossingWith
+  with-stop fused n s h = rw (h, units-same)

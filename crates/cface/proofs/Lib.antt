@@ -1,1 +1,5 @@
+pub mod Bounds
+pub mod Conversions
 pub mod Crossings
+pub mod Ends
+pub mod Spaces

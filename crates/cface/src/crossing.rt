@@ -6,7 +6,7 @@ use medium::granularity::Granularity;
 use medium::granularity::GranularityRead;
 ghost use mathlib.Core.Path.{_≡_};
 ghost use Rattle.medium.specs.Fuse.{storedNumber};
-ghost use Rattle.cface.specs.Crossing.{geometryOf, geometryAnswer, geometryNumber, fuseOf, unitsLeft, unitsAfter};
+ghost use Rattle.cface.specs.Crossing.{geometryOf, geometryAlone, geometryFor, geometryAnswer, geometryNumber, fuseOf, unitsLeft, unitsAfter};
 
 pub enum GeometryRead {
     Got(Geometry),
@@ -39,6 +39,43 @@ pub fn geometry_of(granularity: u8, s: u8, c: u8, size: u32, count: u32) -> Geom
         size: size,
         count: count,
     })
+}
+
+// The same for a call with no image: 6 also where a rule of the geometry is broken.
+pub fn geometry_alone(granularity: u8, s: u8, c: u8, size: u32, count: u32) -> GeometryRead
+    ensures { λ r. ⌜ geometryAnswer r ≡ geometryAlone granularity s c size count ⌝ }
+{
+    let told = geometry_of(granularity, s, c, size, count);
+    let GeometryRead::Got(g) = told else {
+        return told;
+    };
+    let bad = medium::geometry::fit(g);
+    if bad != 0 {
+        return GeometryRead::Refused(bad);
+    }
+    GeometryRead::Got(g)
+}
+
+// And for a call with an image of so many bytes: 6, then 7.
+pub fn geometry_for(
+    room: usize,
+    granularity: u8,
+    s: u8,
+    c: u8,
+    size: u32,
+    count: u32,
+) -> GeometryRead
+    ensures { λ r. ⌜ geometryAnswer r ≡ geometryFor room granularity s c size count ⌝ }
+{
+    let told = geometry_of(granularity, s, c, size, count);
+    let GeometryRead::Got(g) = told else {
+        return told;
+    };
+    let bad = medium::geometry::check(g, room);
+    if bad != 0 {
+        return GeometryRead::Refused(bad);
+    }
+    GeometryRead::Got(g)
 }
 
 // The fuse that a flag and a count of units say.

@@ -4,5 +4,15 @@
 // has a condition that its caller must keep. A refused call leaves every out value as it was.
 //
 // Always true: 6 comes first, also for a granularity byte that names none; without a fuse the units are neither read nor written.
+mod block_calls;
 mod crossing;
+mod header_calls;
+mod info_calls;
+mod iterator_calls;
+mod location_calls;
 mod medium_calls;
+mod metadata_calls;
+mod reader_calls;
+mod record_calls;
+mod records;
+mod values;

@@ -31,6 +31,10 @@ pub fn run(case: &Case) -> Option<Outcome> {
     if !present(case.op.signature().layer) {
         return None;
     }
+    #[cfg(all(feature = "objects", not(feature = "writer")))]
+    if objects::writes(case.op) {
+        return None;
+    }
     let mut lent = Lent::of(case);
     let answer = call(case, &mut lent)?;
     Some(lent.outcome(case, answer))

@@ -12,14 +12,6 @@ interface! {
     stumpchoir_header_read(image; block: u32, offset: u32, header: *mut u32);
     stumpchoir_update_state(store; header: *mut u32, state: u8);
     stumpchoir_set_payload_size(store; header: *mut u32, payload_size: u32);
-    stumpchoir_writer_allocate(store; block: u32, offset: u32, kind: u8, writer: *mut u32);
-    stumpchoir_writer_space(; writer: *const u32, space: *mut u32);
-    stumpchoir_writer_payload_size(; writer: *const u32, payload_size: *mut u32);
-    stumpchoir_writer_total_size(; writer: *const u32, total_size: *mut u32);
-    stumpchoir_writer_write(store; writer: *mut u32, src: *const u8, src_len: usize);
-    stumpchoir_writer_finalize(store; writer: *mut u32);
-    stumpchoir_writer_delete(store; writer: *mut u32);
-    stumpchoir_write_to(store; block: u32, offset: u32, kind: u8, src: *const u8, src_len: usize, total_size: *mut u32);
     stumpchoir_reader_new(image; block: u32, offset: u32, allow_non_finalized: bool, reader: *mut u32);
     stumpchoir_reader_len(; reader: *const u32, len: *mut u32);
     stumpchoir_reader_remaining(; reader: *const u32, remaining: *mut u32);
@@ -29,8 +21,6 @@ interface! {
     stumpchoir_info_total_size(; header: *const u32, total_size: *mut u64);
     stumpchoir_info_finalize(store; header: *mut u32);
     stumpchoir_info_delete(store; header: *mut u32);
-    stumpchoir_copy_object(store; header: *const u32, block: u32, offset: u32, copy: *mut u32);
-    stumpchoir_move_object(store; header: *const u32, block: u32, offset: u32, copy: *mut u32);
     stumpchoir_info_read_metadata(image; header: *const u32, metadata: *mut u32);
     stumpchoir_location_read_metadata(image; block: u32, offset: u32, metadata: *mut u32);
     stumpchoir_metadata_next_object_location(image; metadata: *mut u32, found: *mut u32, location: *mut u32);
@@ -39,8 +29,29 @@ interface! {
     stumpchoir_iterator_next(image; iterator: *mut u32, found: *mut u32, header: *mut u32);
 }
 
+#[cfg(feature = "writer")]
+interface! {
+    stumpchoir_writer_allocate(store; block: u32, offset: u32, kind: u8, writer: *mut u32);
+    stumpchoir_writer_space(; writer: *const u32, space: *mut u32);
+    stumpchoir_writer_payload_size(; writer: *const u32, payload_size: *mut u32);
+    stumpchoir_writer_total_size(; writer: *const u32, total_size: *mut u32);
+    stumpchoir_writer_write(store; writer: *mut u32, src: *const u8, src_len: usize);
+    stumpchoir_writer_finalize(store; writer: *mut u32);
+    stumpchoir_writer_delete(store; writer: *mut u32);
+    stumpchoir_write_to(store; block: u32, offset: u32, kind: u8, src: *const u8, src_len: usize, total_size: *mut u32);
+    stumpchoir_copy_object(store; header: *const u32, block: u32, offset: u32, copy: *mut u32);
+    stumpchoir_move_object(store; header: *const u32, block: u32, offset: u32, copy: *mut u32);
+}
+
+/// Whether a function is one of the writer's, which the archive has where the feature `writer` is on.
+pub fn writes(op: Op) -> bool {
+    matches!(op.signature().array, Shape::Writer)
+        || matches!(op, Op::WriterAllocate | Op::WriteTo | Op::CopyObject | Op::MoveObject)
+}
+
 pub fn call(case: &Case, l: &mut Lent) -> u8 {
     match case.op.signature().array {
+        #[cfg(feature = "writer")]
         Shape::Writer => writer(case, l),
         Shape::Reader => reader(case, l),
         Shape::Header => by_header(case, l),
@@ -57,7 +68,9 @@ fn by_place(case: &Case, l: &mut Lent) -> u8 {
         Op::LocationIntoBytes => c!(stumpchoir_location_into_bytes(case, arg(0), arg(1), l.b.as_mut_ptr(), out)),
         Op::LocationFromBytes => c!(stumpchoir_location_from_bytes(case, bytes, len, out)),
         Op::HeaderRead => c!(stumpchoir_header_read(case; image l, arg(0), arg(1), out)),
+        #[cfg(feature = "writer")]
         Op::WriterAllocate => c!(stumpchoir_writer_allocate(case; store l, arg(0), arg(1), arg(2) as u8, out)),
+        #[cfg(feature = "writer")]
         Op::WriteTo => c!(stumpchoir_write_to(case; store l, arg(0), arg(1), arg(2) as u8, bytes, len, out)),
         Op::ReaderNew => c!(stumpchoir_reader_new(case; image l, arg(0), arg(1), arg(2) != 0, out)),
         Op::InfoRead => c!(stumpchoir_info_read(case; image l, arg(0), arg(1), out, out.wrapping_add(1))),
@@ -88,13 +101,16 @@ fn by_header(case: &Case, l: &mut Lent) -> u8 {
         Op::InfoTotalSize => c!(stumpchoir_info_total_size(case, array, &raw mut l.q)),
         Op::InfoFinalize => c!(stumpchoir_info_finalize(case; store l, array)),
         Op::InfoDelete => c!(stumpchoir_info_delete(case; store l, array)),
+        #[cfg(feature = "writer")]
         Op::CopyObject => c!(stumpchoir_copy_object(case; store l, array, arg(0), arg(1), out)),
+        #[cfg(feature = "writer")]
         Op::MoveObject => c!(stumpchoir_move_object(case; store l, array, arg(0), arg(1), out)),
         Op::InfoReadMetadata => c!(stumpchoir_info_read_metadata(case; image l, array, out)),
         _ => unreachable!(),
     }
 }
 
+#[cfg(feature = "writer")]
 fn writer(case: &Case, l: &mut Lent) -> u8 {
     let array = l.array.as_mut_ptr();
     let out = l.w.as_mut_ptr();

@@ -1,0 +1,17 @@
+-- A well formed record has sixteen bytes.
+use Prim.Native.Nat.{ℕ}
+use mathlib.Core.Path.{_≡_, refl}
+use mathlib.Core.List.{List}
+use mathlib.Core.Bool.{Bool, true, false, _&&_, false≢true}
+use lib.ListN.{length, getD}
+use lib.Dec.{eqb}
+use borrow.Author.Tests.{eqb-true}
+use Rattle.record.specs.Record.{wordAt, wellFormed}
+
+first : (a b : Bool) → (a && b) ≡ true → a ≡ true
+first true b e = refl
+first false b e = absurd (false≢true e)
+
+pub sixteen : (raw : List ℕ) → wellFormed raw ≡ true → length raw ≡ 16
+unfolding wellFormed
+sixteen raw e = eqb-true _ _ (first _ _ (first _ _ e))
