@@ -160,6 +160,23 @@ uint8_t stumpchoir_record_add_used_bytes(STUMPCHOIR_GEOMETRY, uint32_t record[4]
 /* The record of a block that was just formatted; 9 at the last erase count. */
 uint8_t stumpchoir_record_update_stats_after_erase(STUMPCHOIR_GEOMETRY, uint32_t record[4]);
 
+/* ---- the collector
+ *
+ * The table is lent: a record a block, four numbers each, table_len counted in numbers. 7 for another length, and 4 for an impossible kind
+ * or mark anywhere in it, before any step. After a refusal image and table have exactly what was stored before. */
+
+/* The first pass: deletes objects that a power cut left unfinished. */
+uint8_t stumpchoir_delete_invalid_objects(STUMPCHOIR_GEOMETRY, STUMPCHOIR_STORE, uint32_t *table, size_t table_len);
+
+/* The second: formats blocks without allocation whose only object that is not deleted is an unfinished one. */
+uint8_t stumpchoir_erase_invalid_finished_blocks(STUMPCHOIR_GEOMETRY, STUMPCHOIR_STORE, uint32_t *table, size_t table_len);
+
+/* The third: formats blocks with deleted objects alone, unless they are full. */
+uint8_t stumpchoir_erase_full_finished_blocks(STUMPCHOIR_GEOMETRY, STUMPCHOIR_STORE, uint32_t *table, size_t table_len);
+
+/* The three passes in order. */
+uint8_t stumpchoir_run(STUMPCHOIR_GEOMETRY, STUMPCHOIR_STORE, uint32_t *table, size_t table_len);
+
 #ifdef __cplusplus
 }
 #endif

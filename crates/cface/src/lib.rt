@@ -5,6 +5,7 @@
 //
 // Always true: 6 comes first, also for a granularity byte that names none; without a fuse the units are neither read nor written.
 mod block_calls;
+mod collector_calls;
 mod crossing;
 mod header_calls;
 mod info_calls;
