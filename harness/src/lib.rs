@@ -2,12 +2,14 @@
 //! implementation of the paper, and the Rattle library behind its C interface, compared case by case.
 //!
 //! Reading order: `op` (the functions), `case` and `outcome` (what goes in and comes out), `model` (the paper),
-//! `oracle` (the text), `rattle` (the library), `cases` (where cases come from), `compare`, `shrink`, `recorded`, `moves`.
+//! `oracle` (the text), `rattle` (the library), `cases` (where cases come from), `compare`, `shrink`, `recorded`, `moves`,
+//! `inspector`.
 
 pub use text::{answer, case, geometry, hexrun, op, outcome, sha256};
 
 pub mod cases;
 pub mod compare;
+pub mod inspector;
 pub mod model;
 pub mod moves;
 pub mod oracle;

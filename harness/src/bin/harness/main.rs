@@ -1,6 +1,7 @@
 //! The harness's command line.
 
 mod compare;
+mod inspector;
 mod lists;
 mod moves;
 mod options;
@@ -13,6 +14,7 @@ fn main() -> ExitCode {
     let result = options::parse(words).and_then(|o| match command.as_str() {
         "compare" => compare::run(&o),
         "moves" => moves::run(&o),
+        "inspector" => inspector::run(&o),
         "replay" => lists::replay(&o),
         "record" => lists::record(&o),
         "recorded" => lists::recorded(&o),
