@@ -2,31 +2,24 @@
 use mathlib.Core.Path.{_≡_, refl, sym, ap, _∙_}
 use mathlib.Core.Bool.{Bool, true, false}
 use mathlib.Core.List.{List, _++_}
-use Prim.Native.Nat.{ℕ, zero, suc, _+_, _<_}
+use Prim.Native.Nat.{ℕ, zero, suc, _+_}
 use native.Mathlib.Omega.{arith}
 use lib.ListN.{length, take, drop, length-append, take-append-drop}
 use lib.Dec.{eqb}
-use borrow.Author.Tests.{ne-eqb, eqb-true}
+use borrow.Author.Tests.{eqb-true}
 use Rattle.medium.specs.declared.geometry.Geometry.{Geometry}
 use Rattle.medium.specs.Granularity.{pick}
 use Rattle.medium.specs.Geometry.{fitOf}
 use Rattle.medium.specs.Operation.{Answer, done, refused, andThen, orRefuse, numberOf}
-use Rattle.objects.specs.declared.types.TypeRead.the-variants as ty
 use Rattle.objects.specs.declared.location.ObjectLocation.{ObjectLocation}
 use Rattle.objects.specs.declared.reader.ObjectReader.{ObjectReader}
 use Rattle.objects.specs.declared.reader.Reading.the-variants as reading
-use Rattle.objects.specs.Types.{typeOf}
 use Rattle.objects.specs.Reader.{Chunk, readingOf}
 use Rattle.objects.specs.Location.{locationLength, locationBytes, intoBytes}
 use Rattle.objects.proofs.Numbers.{length-bytes}
-use Rattle.cface.specs.Crossing.{keptAs, keptBy}
-use Rattle.cface.specs.Values.{readerNumbers}
+use Rattle.crossing.specs.Crossing.{keptAs, keptBy}
+use Rattle.crossing.specs.Values.{readerNumbers}
 use Rattle.cface.specs.Objects.{overFirst, chunkLength, chunkReader}
-
--- a number that is no byte is no type
-pub type-high : (kind : ℕ) → 255 < kind → typeOf kind ≡ ty.Refused 2
-unfolding typeOf
-type-high kind h = simp (ne-eqb kind 0x8F (λ e. omega arith), ne-eqb kind 0x8E (λ e. omega arith), ne-eqb kind 0x8D (λ e. omega arith), ne-eqb kind 0xFF (λ e. omega arith))
 
 -- ---- a location's bytes over the first of a longer array
 

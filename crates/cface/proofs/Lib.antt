@@ -1,5 +1,3 @@
 pub mod Bounds
 pub mod Conversions
-pub mod Crossings
-pub mod Ends
 pub mod Spaces

@@ -11,8 +11,8 @@ use Rattle.blocks.specs.BlockHeader.{writeHeader, blockHeaderAt}
 use Rattle.blocks.specs.Format.{dataEmptyAt, setBlockType}
 use Rattle.blocks.specs.Record.{kindOf, freeSpace, recordEmpty, addUsedBytes, updateStatsAfterErase}
 use Rattle.blocks.specs.Scan.{scanBlock, calculateFreeableSpace}
-use Rattle.cface.specs.Crossing.{under}
-use Rattle.cface.specs.Records.{blockTypeOf, recordOf}
+use Rattle.crossing.specs.Crossing.{under}
+use Rattle.crossing.specs.Records.{blockTypeOf, recordOf}
 
 -- ---- of a block
 

@@ -1,6 +1,3 @@
-pub mod Crossing
 pub mod Medium
-pub mod Values
 pub mod Objects
-pub mod Records
 pub mod Blocks

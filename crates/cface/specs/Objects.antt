@@ -21,8 +21,8 @@ use Rattle.objects.specs.Info.{Info, found, none, infoAt, totalSize}
 use Rattle.objects.specs.Metadata.{readMetadata, metadataAt, nextLocation, resetOf}
 use Rattle.objects.specs.Listing.{startOf, nextOf}
 use Rattle.objects.specs.Reader.{Chunk, readerAt, readerLen, remaining, rewound, readSome}
-use Rattle.cface.specs.Crossing.{under}
-use Rattle.cface.specs.Values.{located, targetOf, headerOf, headerNumbers, readerOf, readerNumbers, metadataOf, metadataNumbers, iteratorOf, iteratorNumbers, locationNumbers}
+use Rattle.crossing.specs.Crossing.{under}
+use Rattle.crossing.specs.Values.{located, targetOf, headerOf, headerNumbers, readerOf, readerNumbers, metadataOf, metadataNumbers, iteratorOf, iteratorNumbers, locationNumbers}
 
 -- ---- locations
 

@@ -1,20 +1,20 @@
 // Blocks for C.
-use crate::crossing;
-use crate::crossing::GeometryRead;
-use crate::records;
-use crate::records::BlockTypeRead;
 use blocks::format;
 use blocks::header::BlockHeader;
 use blocks::header::BlockHeaderKind;
 use blocks::header::KindRead;
 use blocks::scan;
+use crossing::call;
+use crossing::call::GeometryRead;
+use crossing::records;
+use crossing::records::BlockTypeRead;
 use medium::geometry::Counted;
 ghost use mathlib.Core.Path.{_≡_};
 ghost use lib.ListN.{length};
 ghost use Rattle.medium.specs.Operation.{run, numberOf};
 ghost use Rattle.blocks.specs.Format.{formatBlock, formatStorage};
-ghost use Rattle.cface.specs.Crossing.{geometryOf, geometryFor, fuseOf, crossed, crossing, under, kept, keptAs};
-ghost use Rattle.cface.specs.Records.{blockHeaderNumbers, recordNumbers, flagNumber};
+ghost use Rattle.crossing.specs.Crossing.{geometryOf, geometryFor, fuseOf, crossed, crossing, under, kept, keptAs};
+ghost use Rattle.crossing.specs.Records.{blockHeaderNumbers, recordNumbers, flagNumber};
 ghost use Rattle.cface.specs.Blocks.{blockHeaderIn, writeHeaderIn, dataEmptyIn, scanBlockIn, setBlockTypeIn, freeableSpaceIn};
 
 // The header of a block: kind and erase count.
@@ -32,7 +32,7 @@ pub extern "C" fn stumpchoir_block_header_read(
     ensures { λ r. ⌜ r ≡ numberOf (blockHeaderIn (geometryOf granularity s c size count) block (now (image .entry))) ⌝ }
     ensures { λ _. ⌜ now (header .exit) ≡ keptAs blockHeaderNumbers (blockHeaderIn (geometryOf granularity s c size count) block (now (image .entry))) (now (header .entry)) ⌝ }
 {
-    let told = crossing::geometry_of(granularity, s, c, size, count);
+    let told = call::geometry_of(granularity, s, c, size, count);
     let GeometryRead::Got(g) = told else {
         return told.number();
     };
@@ -57,7 +57,7 @@ pub extern "C" fn stumpchoir_block_header_write(
 ) -> u8
     ensures { λ r. ⌜ crossed r (now (units .exit)) (now (image .exit)) ≡ crossing (now (units .entry)) (run (fuseOf fused (now (units .entry))) (writeHeaderIn (geometryFor (length (now (image .entry))) granularity s c size count) block kind «erase_count») (now (image .entry))) ⌝ }
 {
-    let told = crossing::geometry_for(image.len(), granularity, s, c, size, count);
+    let told = call::geometry_for(image.len(), granularity, s, c, size, count);
     let GeometryRead::Got(g) = told else {
         return told.number();
     };
@@ -69,9 +69,9 @@ pub extern "C" fn stumpchoir_block_header_write(
         kind: k,
         erase_count: erase_count,
     };
-    let f = crossing::fuse_of(fused, units);
+    let f = call::fuse_of(fused, units);
     let a = h.write(g, image, f, block);
-    crossing::hand_back(a, units)
+    call::hand_back(a, units)
 }
 
 // Whether all bytes behind the header of a block are FF: 1 or 0.
@@ -89,7 +89,7 @@ pub extern "C" fn stumpchoir_is_block_data_empty(
     ensures { λ r. ⌜ r ≡ numberOf (dataEmptyIn (geometryOf granularity s c size count) block (now (image .entry))) ⌝ }
     ensures { λ _. ⌜ now (empty .exit) ≡ keptAs flagNumber (dataEmptyIn (geometryOf granularity s c size count) block (now (image .entry))) (now (empty .entry)) ⌝ }
 {
-    let told = crossing::geometry_of(granularity, s, c, size, count);
+    let told = call::geometry_of(granularity, s, c, size, count);
     let GeometryRead::Got(g) = told else {
         return told.number();
     };
@@ -112,13 +112,13 @@ pub extern "C" fn stumpchoir_format_block(
 ) -> u8
     ensures { λ r. ⌜ crossed r (now (units .exit)) (now (image .exit)) ≡ crossing (now (units .entry)) (run (fuseOf fused (now (units .entry))) (under (geometryOf granularity s c size count) (λ g. formatBlock g block)) (now (image .entry))) ⌝ }
 {
-    let told = crossing::geometry_of(granularity, s, c, size, count);
+    let told = call::geometry_of(granularity, s, c, size, count);
     let GeometryRead::Got(g) = told else {
         return told.number();
     };
-    let f = crossing::fuse_of(fused, units);
+    let f = call::fuse_of(fused, units);
     let a = format::format_block(g, image, f, block);
-    crossing::hand_back(a, units)
+    call::hand_back(a, units)
 }
 
 // Formats every block, from 0 up.
@@ -135,13 +135,13 @@ pub extern "C" fn stumpchoir_format_storage(
 ) -> u8
     ensures { λ r. ⌜ crossed r (now (units .exit)) (now (image .exit)) ≡ crossing (now (units .entry)) (run (fuseOf fused (now (units .entry))) (under (geometryOf granularity s c size count) formatStorage) (now (image .entry))) ⌝ }
 {
-    let told = crossing::geometry_of(granularity, s, c, size, count);
+    let told = call::geometry_of(granularity, s, c, size, count);
     let GeometryRead::Got(g) = told else {
         return told.number();
     };
-    let f = crossing::fuse_of(fused, units);
+    let f = call::fuse_of(fused, units);
     let a = format::format_storage(g, image, f);
-    crossing::hand_back(a, units)
+    call::hand_back(a, units)
 }
 
 // The record of a block, read off its bytes.
@@ -159,7 +159,7 @@ pub extern "C" fn stumpchoir_scan_block(
     ensures { λ r. ⌜ r ≡ numberOf (scanBlockIn (geometryOf granularity s c size count) block (now (image .entry))) ⌝ }
     ensures { λ _. ⌜ now (numbers .exit) ≡ keptAs recordNumbers (scanBlockIn (geometryOf granularity s c size count) block (now (image .entry))) (now (numbers .entry)) ⌝ }
 {
-    let told = crossing::geometry_of(granularity, s, c, size, count);
+    let told = call::geometry_of(granularity, s, c, size, count);
     let GeometryRead::Got(g) = told else {
         return told.number();
     };
@@ -183,7 +183,7 @@ pub extern "C" fn stumpchoir_set_block_type(
 ) -> u8
     ensures { λ r. ⌜ crossed r (now (units .exit)) (now (image .exit)) ≡ crossing (now (units .entry)) (run (fuseOf fused (now (units .entry))) (setBlockTypeIn (geometryFor (length (now (image .entry))) granularity s c size count) block kind) (now (image .entry))) ⌝ }
 {
-    let told = crossing::geometry_for(image.len(), granularity, s, c, size, count);
+    let told = call::geometry_for(image.len(), granularity, s, c, size, count);
     let GeometryRead::Got(g) = told else {
         return told.number();
     };
@@ -191,9 +191,9 @@ pub extern "C" fn stumpchoir_set_block_type(
     let BlockTypeRead::Got(t) = of else {
         return of.number();
     };
-    let f = crossing::fuse_of(fused, units);
+    let f = call::fuse_of(fused, units);
     let a = format::set_block_type(g, image, f, block, t);
-    crossing::hand_back(a, units)
+    call::hand_back(a, units)
 }
 
 // How many bytes an erase of a block would give.
@@ -211,7 +211,7 @@ pub extern "C" fn stumpchoir_calculate_freeable_space(
     ensures { λ r. ⌜ r ≡ numberOf (freeableSpaceIn (geometryOf granularity s c size count) block (now (image .entry))) ⌝ }
     ensures { λ _. ⌜ now (space .exit) ≡ kept (freeableSpaceIn (geometryOf granularity s c size count) block (now (image .entry))) (now (space .entry)) ⌝ }
 {
-    let told = crossing::geometry_of(granularity, s, c, size, count);
+    let told = call::geometry_of(granularity, s, c, size, count);
     let GeometryRead::Got(g) = told else {
         return told.number();
     };

@@ -1,12 +1,12 @@
 // The collector for C. The table is four numbers a block: kind, erase count, used bytes, allow mark.
-use crate::crossing;
-use crate::crossing::GeometryRead;
 use collector::passes;
+use crossing::call;
+use crossing::call::GeometryRead;
 ghost use mathlib.Core.Path.{_≡_};
 ghost use Rattle.medium.specs.Operation.{run};
 ghost use Rattle.collector.specs.Table.{both};
 ghost use Rattle.collector.specs.Passes.{deleteInvalidObjects, eraseInvalidFinishedBlocks, eraseFullFinishedBlocks, collect};
-ghost use Rattle.cface.specs.Crossing.{geometryOf, fuseOf, crossed, crossing, under};
+ghost use Rattle.crossing.specs.Crossing.{geometryOf, fuseOf, crossed, crossing, under};
 
 // Deletes objects that a power cut left unfinished.
 #[no_mangle]
@@ -23,13 +23,13 @@ pub extern "C" fn stumpchoir_delete_invalid_objects(
 ) -> u8
     ensures { λ r. ⌜ crossed r (now (units .exit)) (both (now (image .exit)) (now (table .exit))) ≡ crossing (now (units .entry)) (run (fuseOf fused (now (units .entry))) (under (geometryOf granularity s c size count) deleteInvalidObjects) (both (now (image .entry)) (now (table .entry)))) ⌝ }
 {
-    let told = crossing::geometry_of(granularity, s, c, size, count);
+    let told = call::geometry_of(granularity, s, c, size, count);
     let GeometryRead::Got(g) = told else {
         return told.number();
     };
-    let f = crossing::fuse_of(fused, units);
+    let f = call::fuse_of(fused, units);
     let a = passes::delete_invalid_objects(g, image, table, f);
-    crossing::hand_back(a, units)
+    call::hand_back(a, units)
 }
 
 // Formats blocks in which nothing can be allocated and an unfinished object is all that is not deleted.
@@ -47,13 +47,13 @@ pub extern "C" fn stumpchoir_erase_invalid_finished_blocks(
 ) -> u8
     ensures { λ r. ⌜ crossed r (now (units .exit)) (both (now (image .exit)) (now (table .exit))) ≡ crossing (now (units .entry)) (run (fuseOf fused (now (units .entry))) (under (geometryOf granularity s c size count) eraseInvalidFinishedBlocks) (both (now (image .entry)) (now (table .entry)))) ⌝ }
 {
-    let told = crossing::geometry_of(granularity, s, c, size, count);
+    let told = call::geometry_of(granularity, s, c, size, count);
     let GeometryRead::Got(g) = told else {
         return told.number();
     };
-    let f = crossing::fuse_of(fused, units);
+    let f = call::fuse_of(fused, units);
     let a = passes::erase_invalid_finished_blocks(g, image, table, f);
-    crossing::hand_back(a, units)
+    call::hand_back(a, units)
 }
 
 // Formats blocks in which all objects are deleted.
@@ -71,13 +71,13 @@ pub extern "C" fn stumpchoir_erase_full_finished_blocks(
 ) -> u8
     ensures { λ r. ⌜ crossed r (now (units .exit)) (both (now (image .exit)) (now (table .exit))) ≡ crossing (now (units .entry)) (run (fuseOf fused (now (units .entry))) (under (geometryOf granularity s c size count) eraseFullFinishedBlocks) (both (now (image .entry)) (now (table .entry)))) ⌝ }
 {
-    let told = crossing::geometry_of(granularity, s, c, size, count);
+    let told = call::geometry_of(granularity, s, c, size, count);
     let GeometryRead::Got(g) = told else {
         return told.number();
     };
-    let f = crossing::fuse_of(fused, units);
+    let f = call::fuse_of(fused, units);
     let a = passes::erase_full_finished_blocks(g, image, table, f);
-    crossing::hand_back(a, units)
+    call::hand_back(a, units)
 }
 
 // A collection: the three passes in order.
@@ -95,11 +95,11 @@ pub extern "C" fn stumpchoir_run(
 ) -> u8
     ensures { λ r. ⌜ crossed r (now (units .exit)) (both (now (image .exit)) (now (table .exit))) ≡ crossing (now (units .entry)) (run (fuseOf fused (now (units .entry))) (under (geometryOf granularity s c size count) collect) (both (now (image .entry)) (now (table .entry)))) ⌝ }
 {
-    let told = crossing::geometry_of(granularity, s, c, size, count);
+    let told = call::geometry_of(granularity, s, c, size, count);
     let GeometryRead::Got(g) = told else {
         return told.number();
     };
-    let f = crossing::fuse_of(fused, units);
+    let f = call::fuse_of(fused, units);
     let a = passes::run(g, image, table, f);
-    crossing::hand_back(a, units)
+    call::hand_back(a, units)
 }

@@ -1,16 +1,16 @@
 // Headers for C.
-use crate::crossing;
-use crate::crossing::GeometryRead;
-use crate::values;
-use crate::values::TargetRead;
+use crossing::call;
+use crossing::call::GeometryRead;
+use crossing::values;
+use crossing::values::TargetRead;
 use objects::header::HeaderRead;
 use objects::header::ObjectHeader;
 use objects::location::ObjectLocation;
 ghost use mathlib.Core.Path.{_≡_};
 ghost use lib.ListN.{length};
 ghost use Rattle.medium.specs.Operation.{run, numberOf};
-ghost use Rattle.cface.specs.Crossing.{geometryOf, geometryFor, fuseOf, keptAs, crossedWith, crossingWith};
-ghost use Rattle.cface.specs.Values.{headerNumbers};
+ghost use Rattle.crossing.specs.Crossing.{geometryOf, geometryFor, fuseOf, keptAs, crossedWith, crossingWith};
+ghost use Rattle.crossing.specs.Values.{headerNumbers};
 ghost use Rattle.cface.specs.Objects.{headerIn, updateStateIn, setPayloadSizeIn};
 
 // The header at a place.
@@ -29,7 +29,7 @@ pub extern "C" fn stumpchoir_header_read(
     ensures { λ r. ⌜ r ≡ numberOf (headerIn (geometryOf granularity s c size count) block offset (now (image .entry))) ⌝ }
     ensures { λ _. ⌜ now (header .exit) ≡ keptAs headerNumbers (headerIn (geometryOf granularity s c size count) block offset (now (image .entry))) (now (header .entry)) ⌝ }
 {
-    let told = crossing::geometry_of(granularity, s, c, size, count);
+    let told = call::geometry_of(granularity, s, c, size, count);
     let GeometryRead::Got(g) = told else {
         return told.number();
     };
@@ -61,7 +61,7 @@ pub extern "C" fn stumpchoir_update_state(
 ) -> u8
     ensures { λ r. ⌜ crossedWith r (now (units .exit)) (now (image .exit)) (now (header .exit)) ≡ crossingWith headerNumbers (now (units .entry)) (now (header .entry)) (run (fuseOf fused (now (units .entry))) (updateStateIn (geometryFor (length (now (image .entry))) granularity s c size count) (now (header .entry)) state) (now (image .entry))) ⌝ }
 {
-    let told = crossing::geometry_for(image.len(), granularity, s, c, size, count);
+    let told = call::geometry_for(image.len(), granularity, s, c, size, count);
     let GeometryRead::Got(g) = told else {
         return told.number();
     };
@@ -73,7 +73,7 @@ pub extern "C" fn stumpchoir_update_state(
     let TargetRead::Got(to) = target else {
         return target.number();
     };
-    let f = crossing::fuse_of(fused, units);
+    let f = call::fuse_of(fused, units);
     let a = h.update_state(g, image, f, to);
     values::hand_back(a, units, header)
 }
@@ -94,7 +94,7 @@ pub extern "C" fn stumpchoir_set_payload_size(
 ) -> u8
     ensures { λ r. ⌜ crossedWith r (now (units .exit)) (now (image .exit)) (now (header .exit)) ≡ crossingWith headerNumbers (now (units .entry)) (now (header .entry)) (run (fuseOf fused (now (units .entry))) (setPayloadSizeIn (geometryFor (length (now (image .entry))) granularity s c size count) (now (header .entry)) payload) (now (image .entry))) ⌝ }
 {
-    let told = crossing::geometry_for(image.len(), granularity, s, c, size, count);
+    let told = call::geometry_for(image.len(), granularity, s, c, size, count);
     let GeometryRead::Got(g) = told else {
         return told.number();
     };
@@ -102,7 +102,7 @@ pub extern "C" fn stumpchoir_set_payload_size(
     let HeaderRead::Got(h) = of else {
         return of.number();
     };
-    let f = crossing::fuse_of(fused, units);
+    let f = call::fuse_of(fused, units);
     let a = h.set_payload_size(g, image, f, payload);
     values::hand_back(a, units, header)
 }

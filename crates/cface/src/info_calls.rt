@@ -1,7 +1,7 @@
 // Objects that are there, for C: known by their headers.
-use crate::crossing;
-use crate::crossing::GeometryRead;
-use crate::values;
+use crossing::call;
+use crossing::call::GeometryRead;
+use crossing::values;
 use medium::geometry::Counted;
 use objects::header::HeaderRead;
 use objects::info;
@@ -11,8 +11,8 @@ ghost use mathlib.Core.Path.{_≡_};
 ghost use lib.ListN.{length};
 ghost use Rattle.medium.specs.Operation.{run, numberOf};
 ghost use Rattle.objects.specs.declared.state.ObjectDataState.the-variants.{Valid, Deleted};
-ghost use Rattle.cface.specs.Crossing.{geometryOf, geometryAlone, geometryFor, fuseOf, kept, keptAs, keptBy, crossedWith, crossingWith};
-ghost use Rattle.cface.specs.Values.{headerNumbers};
+ghost use Rattle.crossing.specs.Crossing.{geometryOf, geometryAlone, geometryFor, fuseOf, kept, keptAs, keptBy, crossedWith, crossingWith};
+ghost use Rattle.crossing.specs.Values.{headerNumbers};
 ghost use Rattle.cface.specs.Objects.{infoIn, infoFound, infoHeader, totalSizeIn, setStateIn};
 
 // The object at a place, if one is there.
@@ -33,7 +33,7 @@ pub extern "C" fn stumpchoir_info_read(
     ensures { λ _. ⌜ now (found .exit) ≡ keptAs infoFound (infoIn (geometryOf granularity s c size count) block offset (now (image .entry))) (now (found .entry)) ⌝ }
     ensures { λ _. ⌜ now (header .exit) ≡ keptBy infoHeader (infoIn (geometryOf granularity s c size count) block offset (now (image .entry))) (now (header .entry)) ⌝ }
 {
-    let told = crossing::geometry_of(granularity, s, c, size, count);
+    let told = call::geometry_of(granularity, s, c, size, count);
     let GeometryRead::Got(g) = told else {
         return told.number();
     };
@@ -70,7 +70,7 @@ pub extern "C" fn stumpchoir_info_total_size(
     ensures { λ r. ⌜ r ≡ numberOf (totalSizeIn (geometryAlone granularity s c size count) (now (header .entry))) ⌝ }
     ensures { λ _. ⌜ now (total .exit) ≡ kept (totalSizeIn (geometryAlone granularity s c size count) (now (header .entry))) (now (total .entry)) ⌝ }
 {
-    let told = crossing::geometry_alone(granularity, s, c, size, count);
+    let told = call::geometry_alone(granularity, s, c, size, count);
     let GeometryRead::Got(g) = told else {
         return told.number();
     };
@@ -101,7 +101,7 @@ pub extern "C" fn stumpchoir_info_finalize(
 ) -> u8
     ensures { λ r. ⌜ crossedWith r (now (units .exit)) (now (image .exit)) (now (header .exit)) ≡ crossingWith headerNumbers (now (units .entry)) (now (header .entry)) (run (fuseOf fused (now (units .entry))) (setStateIn (geometryFor (length (now (image .entry))) granularity s c size count) (now (header .entry)) Valid) (now (image .entry))) ⌝ }
 {
-    let told = crossing::geometry_for(image.len(), granularity, s, c, size, count);
+    let told = call::geometry_for(image.len(), granularity, s, c, size, count);
     let GeometryRead::Got(g) = told else {
         return told.number();
     };
@@ -109,7 +109,7 @@ pub extern "C" fn stumpchoir_info_finalize(
     let HeaderRead::Got(h) = of else {
         return of.number();
     };
-    let f = crossing::fuse_of(fused, units);
+    let f = call::fuse_of(fused, units);
     let a = info::finalize(g, image, f, h);
     values::hand_back(a, units, header)
 }
@@ -129,7 +129,7 @@ pub extern "C" fn stumpchoir_info_delete(
 ) -> u8
     ensures { λ r. ⌜ crossedWith r (now (units .exit)) (now (image .exit)) (now (header .exit)) ≡ crossingWith headerNumbers (now (units .entry)) (now (header .entry)) (run (fuseOf fused (now (units .entry))) (setStateIn (geometryFor (length (now (image .entry))) granularity s c size count) (now (header .entry)) Deleted) (now (image .entry))) ⌝ }
 {
-    let told = crossing::geometry_for(image.len(), granularity, s, c, size, count);
+    let told = call::geometry_for(image.len(), granularity, s, c, size, count);
     let GeometryRead::Got(g) = told else {
         return told.number();
     };
@@ -137,7 +137,7 @@ pub extern "C" fn stumpchoir_info_delete(
     let HeaderRead::Got(h) = of else {
         return of.number();
     };
-    let f = crossing::fuse_of(fused, units);
+    let f = call::fuse_of(fused, units);
     let a = info::delete(g, image, f, h);
     values::hand_back(a, units, header)
 }

@@ -1,13 +1,13 @@
 // Listing for C.
-use crate::crossing;
-use crate::crossing::GeometryRead;
-use crate::values;
+use crossing::call;
+use crossing::call::GeometryRead;
+use crossing::values;
 use objects::iterator::Next;
 use objects::iterator::ObjectIterator;
 ghost use mathlib.Core.Path.{_≡_};
 ghost use Rattle.medium.specs.Operation.{numberOf};
-ghost use Rattle.cface.specs.Crossing.{geometryOf, geometryAlone, keptAs, keptBy};
-ghost use Rattle.cface.specs.Values.{iteratorNumbers};
+ghost use Rattle.crossing.specs.Crossing.{geometryOf, geometryAlone, keptAs, keptBy};
+ghost use Rattle.crossing.specs.Values.{iteratorNumbers};
 ghost use Rattle.cface.specs.Objects.{startIn, nextIn, nextFound, nextHeader, nextIterator};
 
 // An iterator right after the header of a block.
@@ -24,7 +24,7 @@ pub extern "C" fn stumpchoir_iterator_new(
     ensures { λ r. ⌜ r ≡ numberOf (startIn (geometryAlone granularity s c size count) block) ⌝ }
     ensures { λ _. ⌜ now (iterator .exit) ≡ keptAs iteratorNumbers (startIn (geometryAlone granularity s c size count) block) (now (iterator .entry)) ⌝ }
 {
-    let told = crossing::geometry_alone(granularity, s, c, size, count);
+    let told = call::geometry_alone(granularity, s, c, size, count);
     let GeometryRead::Got(g) = told else {
         return told.number();
     };
@@ -50,7 +50,7 @@ pub extern "C" fn stumpchoir_iterator_next(
     ensures { λ _. ⌜ now (found .exit) ≡ keptAs nextFound (nextIn (geometryOf granularity s c size count) (now (iterator .entry)) (now (image .entry))) (now (found .entry)) ⌝ }
     ensures { λ _. ⌜ now (header .exit) ≡ keptBy nextHeader (nextIn (geometryOf granularity s c size count) (now (iterator .entry)) (now (image .entry))) (now (header .entry)) ⌝ }
 {
-    let told = crossing::geometry_of(granularity, s, c, size, count);
+    let told = call::geometry_of(granularity, s, c, size, count);
     let GeometryRead::Got(g) = told else {
         return told.number();
     };

@@ -4,16 +4,14 @@
 // has a condition that its caller must keep. A refused call leaves every out value as it was.
 //
 // Always true: 6 comes first, also for a granularity byte that names none; without a fuse the units are neither read nor written.
-mod block_calls;
-mod collector_calls;
-mod crossing;
-mod header_calls;
-mod info_calls;
-mod iterator_calls;
-mod location_calls;
-mod medium_calls;
-mod metadata_calls;
-mod reader_calls;
-mod record_calls;
-mod records;
-mod values;
+pub mod block_calls;
+pub mod collector_calls;
+pub mod header_calls;
+pub mod info_calls;
+pub mod iterator_calls;
+pub mod location_calls;
+pub mod medium_calls;
+pub mod metadata_calls;
+mod outs;
+pub mod reader_calls;
+pub mod record_calls;

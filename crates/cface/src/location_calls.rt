@@ -1,7 +1,7 @@
 // Locations for C.
-use crate::crossing;
-use crate::crossing::GeometryRead;
-use crate::values;
+use crossing::call;
+use crossing::call::GeometryRead;
+use crossing::values;
 use medium::fuse::Answered;
 use medium::geometry::Geometry;
 use objects::location::LocationRead;
@@ -11,8 +11,8 @@ ghost use Prim.Native.Nat.{_≤_};
 ghost use lib.ListN.{length};
 ghost use Rattle.medium.specs.Operation.{numberOf};
 ghost use Rattle.objects.specs.Location.{intoBytes};
-ghost use Rattle.cface.specs.Crossing.{geometryOf, geometryAlone, keptAs, keptBy};
-ghost use Rattle.cface.specs.Values.{locationNumbers};
+ghost use Rattle.crossing.specs.Crossing.{geometryOf, geometryAlone, keptAs, keptBy};
+ghost use Rattle.crossing.specs.Values.{locationNumbers};
 ghost use Rattle.cface.specs.Objects.{intoBytesIn, overFirst, fromBytesIn};
 
 // The first c + s bytes become those of the location.
@@ -32,7 +32,7 @@ pub extern "C" fn stumpchoir_location_into_bytes(
     ensures { λ _. ⌜ now (bytes .exit) ≡ keptBy overFirst (intoBytesIn (geometryAlone granularity s c size count) block offset) (now (bytes .entry)) ⌝ }
     ensures { λ _. ⌜ now (len .exit) ≡ keptAs length (intoBytesIn (geometryAlone granularity s c size count) block offset) (now (len .entry)) ⌝ }
 {
-    let told = crossing::geometry_alone(granularity, s, c, size, count);
+    let told = call::geometry_alone(granularity, s, c, size, count);
     let GeometryRead::Got(g) = told else {
         return told.number();
     };
@@ -73,7 +73,7 @@ pub extern "C" fn stumpchoir_location_from_bytes(
     ensures { λ r. ⌜ r ≡ numberOf (fromBytesIn (geometryOf granularity s c size count) (now (bytes .entry))) ⌝ }
     ensures { λ _. ⌜ now (location .exit) ≡ keptAs locationNumbers (fromBytesIn (geometryOf granularity s c size count) (now (bytes .entry))) (now (location .entry)) ⌝ }
 {
-    let told = crossing::geometry_of(granularity, s, c, size, count);
+    let told = call::geometry_of(granularity, s, c, size, count);
     let GeometryRead::Got(g) = told else {
         return told.number();
     };

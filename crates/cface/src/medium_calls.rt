@@ -1,12 +1,12 @@
 // The medium for C.
-use crate::crossing;
-use crate::crossing::GeometryRead;
+use crossing::call;
+use crossing::call::GeometryRead;
 use medium::geometry::Counted;
 ghost use mathlib.Core.Path.{_≡_};
 ghost use lib.ListN.{length};
 ghost use Rattle.medium.specs.Operation.{run, numberOf};
 ghost use Rattle.medium.specs.Medium.{write, erase};
-ghost use Rattle.cface.specs.Crossing.{geometryOf, fuseOf, crossed, crossing, under, kept};
+ghost use Rattle.crossing.specs.Crossing.{geometryOf, fuseOf, crossed, crossing, under, kept};
 ghost use Rattle.cface.specs.Medium.{checkIn, alignIn, readIn};
 
 // A geometry and the room for it: 0, 6 or 7.
@@ -21,7 +21,7 @@ pub extern "C" fn stumpchoir_check(
 ) -> u8
     ensures { λ r. ⌜ r ≡ numberOf (checkIn (geometryOf granularity s c size count) (length (now (image .entry)))) ⌝ }
 {
-    let told = crossing::geometry_of(granularity, s, c, size, count);
+    let told = call::geometry_of(granularity, s, c, size, count);
     let GeometryRead::Got(g) = told else {
         return told.number();
     };
@@ -42,7 +42,7 @@ pub extern "C" fn stumpchoir_align(
     ensures { λ r. ⌜ r ≡ numberOf (alignIn (geometryOf granularity s c size count) n) ⌝ }
     ensures { λ _. ⌜ now (aligned .exit) ≡ kept (alignIn (geometryOf granularity s c size count) n) (now (aligned .entry)) ⌝ }
 {
-    let told = crossing::geometry_of(granularity, s, c, size, count);
+    let told = call::geometry_of(granularity, s, c, size, count);
     let GeometryRead::Got(g) = told else {
         return told.number();
     };
@@ -72,7 +72,7 @@ pub extern "C" fn stumpchoir_read(
     ensures { λ r. ⌜ r ≡ numberOf (readIn (geometryOf granularity s c size count) block offset (length (now (buffer .entry))) (now (image .entry))) ⌝ }
     ensures { λ _. ⌜ now (buffer .exit) ≡ kept (readIn (geometryOf granularity s c size count) block offset (length (now (buffer .entry))) (now (image .entry))) (now (buffer .entry)) ⌝ }
 {
-    let told = crossing::geometry_of(granularity, s, c, size, count);
+    let told = call::geometry_of(granularity, s, c, size, count);
     let GeometryRead::Got(g) = told else {
         return told.number();
     };
@@ -97,13 +97,13 @@ pub extern "C" fn stumpchoir_write(
 ) -> u8
     ensures { λ r. ⌜ crossed r (now (units .exit)) (now (image .exit)) ≡ crossing (now (units .entry)) (run (fuseOf fused (now (units .entry))) (under (geometryOf granularity s c size count) (λ g. write g block offset (now (src .entry)))) (now (image .entry))) ⌝ }
 {
-    let told = crossing::geometry_of(granularity, s, c, size, count);
+    let told = call::geometry_of(granularity, s, c, size, count);
     let GeometryRead::Got(g) = told else {
         return told.number();
     };
-    let f = crossing::fuse_of(fused, units);
+    let f = call::fuse_of(fused, units);
     let a = medium::write(g, image, f, block, offset as usize, src);
-    crossing::hand_back(a, units)
+    call::hand_back(a, units)
 }
 
 // Sets a block to FF, one unit.
@@ -121,11 +121,11 @@ pub extern "C" fn stumpchoir_erase(
 ) -> u8
     ensures { λ r. ⌜ crossed r (now (units .exit)) (now (image .exit)) ≡ crossing (now (units .entry)) (run (fuseOf fused (now (units .entry))) (under (geometryOf granularity s c size count) (λ g. erase g block)) (now (image .entry))) ⌝ }
 {
-    let told = crossing::geometry_of(granularity, s, c, size, count);
+    let told = call::geometry_of(granularity, s, c, size, count);
     let GeometryRead::Got(g) = told else {
         return told.number();
     };
-    let f = crossing::fuse_of(fused, units);
+    let f = call::fuse_of(fused, units);
     let a = medium::erase(g, image, f, block);
-    crossing::hand_back(a, units)
+    call::hand_back(a, units)
 }

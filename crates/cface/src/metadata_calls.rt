@@ -1,7 +1,8 @@
 // Metadata objects for C.
-use crate::crossing;
-use crate::crossing::GeometryRead;
-use crate::values;
+use crate::outs;
+use crossing::call;
+use crossing::call::GeometryRead;
+use crossing::values;
 use objects::header::HeaderRead;
 use objects::location::ObjectLocation;
 use objects::metadata;
@@ -10,8 +11,8 @@ use objects::metadata::NextLocation;
 ghost use mathlib.Core.Path.{_≡_};
 ghost use lib.ListN.{length};
 ghost use Rattle.medium.specs.Operation.{numberOf};
-ghost use Rattle.cface.specs.Crossing.{geometryOf, geometryAlone, geometryFor, keptAs, keptBy};
-ghost use Rattle.cface.specs.Values.{metadataNumbers};
+ghost use Rattle.crossing.specs.Crossing.{geometryOf, geometryAlone, geometryFor, keptAs, keptBy};
+ghost use Rattle.crossing.specs.Values.{metadataNumbers};
 ghost use Rattle.cface.specs.Objects.{readMetadataIn, metadataIn, resetIn, nextLocationIn, locationFound, locationNext, metadataNext};
 
 // Hash and name location of an object that is known by its header.
@@ -29,7 +30,7 @@ pub extern "C" fn stumpchoir_info_read_metadata(
     ensures { λ r. ⌜ r ≡ numberOf (readMetadataIn (geometryFor (length (now (image .entry))) granularity s c size count) (now (header .entry)) (now (image .entry))) ⌝ }
     ensures { λ _. ⌜ now (metadata .exit) ≡ keptAs metadataNumbers (readMetadataIn (geometryFor (length (now (image .entry))) granularity s c size count) (now (header .entry)) (now (image .entry))) (now (metadata .entry)) ⌝ }
 {
-    let told = crossing::geometry_for(image.len(), granularity, s, c, size, count);
+    let told = call::geometry_for(image.len(), granularity, s, c, size, count);
     let GeometryRead::Got(g) = told else {
         return told.number();
     };
@@ -41,7 +42,7 @@ pub extern "C" fn stumpchoir_info_read_metadata(
     let MetadataRead::Got(m) = a else {
         return a.number();
     };
-    values::put_metadata(m, metadata);
+    outs::put_metadata(m, metadata);
     0
 }
 
@@ -61,7 +62,7 @@ pub extern "C" fn stumpchoir_location_read_metadata(
     ensures { λ r. ⌜ r ≡ numberOf (metadataIn (geometryOf granularity s c size count) block offset (now (image .entry))) ⌝ }
     ensures { λ _. ⌜ now (metadata .exit) ≡ keptAs metadataNumbers (metadataIn (geometryOf granularity s c size count) block offset (now (image .entry))) (now (metadata .entry)) ⌝ }
 {
-    let told = crossing::geometry_of(granularity, s, c, size, count);
+    let told = call::geometry_of(granularity, s, c, size, count);
     let GeometryRead::Got(g) = told else {
         return told.number();
     };
@@ -73,7 +74,7 @@ pub extern "C" fn stumpchoir_location_read_metadata(
     let MetadataRead::Got(m) = a else {
         return a.number();
     };
-    values::put_metadata(m, metadata);
+    outs::put_metadata(m, metadata);
     0
 }
 
@@ -90,7 +91,7 @@ pub extern "C" fn stumpchoir_metadata_reset(
     ensures { λ r. ⌜ r ≡ numberOf (resetIn (geometryAlone granularity s c size count) (now (metadata .entry))) ⌝ }
     ensures { λ _. ⌜ now (metadata .exit) ≡ keptAs metadataNumbers (resetIn (geometryAlone granularity s c size count) (now (metadata .entry))) (now (metadata .entry)) ⌝ }
 {
-    let told = crossing::geometry_alone(granularity, s, c, size, count);
+    let told = call::geometry_alone(granularity, s, c, size, count);
     let GeometryRead::Got(_) = told else {
         return told.number();
     };
@@ -98,7 +99,7 @@ pub extern "C" fn stumpchoir_metadata_reset(
     let MetadataRead::Got(m) = of else {
         return of.number();
     };
-    values::put_metadata(m.reset(), metadata);
+    outs::put_metadata(m.reset(), metadata);
     0
 }
 
@@ -120,7 +121,7 @@ pub extern "C" fn stumpchoir_metadata_next_object_location(
     ensures { λ _. ⌜ now (found .exit) ≡ keptAs locationFound (nextLocationIn (geometryFor (length (now (image .entry))) granularity s c size count) (now (metadata .entry)) (now (image .entry))) (now (found .entry)) ⌝ }
     ensures { λ _. ⌜ now (location .exit) ≡ keptBy locationNext (nextLocationIn (geometryFor (length (now (image .entry))) granularity s c size count) (now (metadata .entry)) (now (image .entry))) (now (location .entry)) ⌝ }
 {
-    let told = crossing::geometry_for(image.len(), granularity, s, c, size, count);
+    let told = call::geometry_for(image.len(), granularity, s, c, size, count);
     let GeometryRead::Got(g) = told else {
         return told.number();
     };
@@ -133,7 +134,7 @@ pub extern "C" fn stumpchoir_metadata_next_object_location(
         NextLocation::At(at, next) => {
             *found = 1;
             values::put_location(at, location);
-            values::put_metadata(next, metadata);
+            outs::put_metadata(next, metadata);
             0
         }
         NextLocation::End => {

@@ -1,7 +1,8 @@
 // Readers for C.
-use crate::crossing;
-use crate::crossing::GeometryRead;
-use crate::values;
+use crate::outs;
+use crossing::call;
+use crossing::call::GeometryRead;
+use crossing::values;
 use medium::geometry::Counted;
 use objects::location::ObjectLocation;
 use objects::reader::ObjectReader;
@@ -11,8 +12,8 @@ ghost use mathlib.Core.Path.{_≡_};
 ghost use lib.ListN.{length};
 ghost use Rattle.medium.specs.Operation.{numberOf};
 ghost use Rattle.objects.specs.Reader.{filled};
-ghost use Rattle.cface.specs.Crossing.{geometryOf, geometryAlone, geometryFor, kept, keptAs};
-ghost use Rattle.cface.specs.Values.{readerNumbers};
+ghost use Rattle.crossing.specs.Crossing.{geometryOf, geometryAlone, geometryFor, kept, keptAs};
+ghost use Rattle.crossing.specs.Values.{readerNumbers};
 ghost use Rattle.cface.specs.Objects.{readerIn, readerLenIn, remainingIn, rewindIn, readSomeIn, chunkLength, chunkReader};
 
 // A reader of the object at a place: of a finished one, or of any that is there.
@@ -32,7 +33,7 @@ pub extern "C" fn stumpchoir_reader_new(
     ensures { λ r. ⌜ r ≡ numberOf (readerIn (geometryOf granularity s c size count) block offset unfinished (now (image .entry))) ⌝ }
     ensures { λ _. ⌜ now (reader .exit) ≡ keptAs readerNumbers (readerIn (geometryOf granularity s c size count) block offset unfinished (now (image .entry))) (now (reader .entry)) ⌝ }
 {
-    let told = crossing::geometry_of(granularity, s, c, size, count);
+    let told = call::geometry_of(granularity, s, c, size, count);
     let GeometryRead::Got(g) = told else {
         return told.number();
     };
@@ -44,7 +45,7 @@ pub extern "C" fn stumpchoir_reader_new(
     let ReaderRead::Got(r) = a else {
         return a.number();
     };
-    values::put_reader(r, reader);
+    outs::put_reader(r, reader);
     0
 }
 
@@ -62,7 +63,7 @@ pub extern "C" fn stumpchoir_reader_len(
     ensures { λ r. ⌜ r ≡ numberOf (readerLenIn (geometryAlone granularity s c size count) (now (reader .entry))) ⌝ }
     ensures { λ _. ⌜ now (len .exit) ≡ kept (readerLenIn (geometryAlone granularity s c size count) (now (reader .entry))) (now (len .entry)) ⌝ }
 {
-    let told = crossing::geometry_alone(granularity, s, c, size, count);
+    let told = call::geometry_alone(granularity, s, c, size, count);
     let GeometryRead::Got(g) = told else {
         return told.number();
     };
@@ -92,7 +93,7 @@ pub extern "C" fn stumpchoir_reader_remaining(
     ensures { λ r. ⌜ r ≡ numberOf (remainingIn (geometryAlone granularity s c size count) (now (reader .entry))) ⌝ }
     ensures { λ _. ⌜ now (remaining .exit) ≡ kept (remainingIn (geometryAlone granularity s c size count) (now (reader .entry))) (now (remaining .entry)) ⌝ }
 {
-    let told = crossing::geometry_alone(granularity, s, c, size, count);
+    let told = call::geometry_alone(granularity, s, c, size, count);
     let GeometryRead::Got(g) = told else {
         return told.number();
     };
@@ -121,7 +122,7 @@ pub extern "C" fn stumpchoir_reader_rewind(
     ensures { λ r. ⌜ r ≡ numberOf (rewindIn (geometryAlone granularity s c size count) (now (reader .entry))) ⌝ }
     ensures { λ _. ⌜ now (reader .exit) ≡ keptAs readerNumbers (rewindIn (geometryAlone granularity s c size count) (now (reader .entry))) (now (reader .entry)) ⌝ }
 {
-    let told = crossing::geometry_alone(granularity, s, c, size, count);
+    let told = call::geometry_alone(granularity, s, c, size, count);
     let GeometryRead::Got(_) = told else {
         return told.number();
     };
@@ -129,7 +130,7 @@ pub extern "C" fn stumpchoir_reader_rewind(
     let ReaderRead::Got(r) = of else {
         return of.number();
     };
-    values::put_reader(r.rewind(), reader);
+    outs::put_reader(r.rewind(), reader);
     0
 }
 
@@ -151,7 +152,7 @@ pub extern "C" fn stumpchoir_reader_read(
     ensures { λ _. ⌜ now (buffer .exit) ≡ filled (readSomeIn (geometryFor (length (now (image .entry))) granularity s c size count) (now (reader .entry)) (length (now (buffer .entry))) (now (image .entry))) (now (buffer .entry)) ⌝ }
     ensures { λ _. ⌜ now (read .exit) ≡ keptAs chunkLength (readSomeIn (geometryFor (length (now (image .entry))) granularity s c size count) (now (reader .entry)) (length (now (buffer .entry))) (now (image .entry))) (now (read .entry)) ⌝ }
 {
-    let told = crossing::geometry_for(image.len(), granularity, s, c, size, count);
+    let told = call::geometry_for(image.len(), granularity, s, c, size, count);
     let GeometryRead::Got(g) = told else {
         return told.number();
     };
@@ -163,7 +164,7 @@ pub extern "C" fn stumpchoir_reader_read(
     match a {
         Reading::Read(n, next) => {
             *read = n as u32;
-            values::put_reader(next, reader);
+            outs::put_reader(next, reader);
             0
         }
         Reading::Refused(k) => k,

@@ -1,13 +1,13 @@
 // The arithmetic of a block's record for C.
-use crate::crossing;
-use crate::crossing::GeometryRead;
-use crate::records;
 use blocks::record::BlockInfoRead;
+use crossing::call;
+use crossing::call::GeometryRead;
+use crossing::records;
 use medium::geometry::Counted;
 ghost use mathlib.Core.Path.{_≡_};
 ghost use Rattle.medium.specs.Operation.{numberOf};
-ghost use Rattle.cface.specs.Crossing.{geometryAlone, kept, keptAs};
-ghost use Rattle.cface.specs.Records.{recordNumbers, flagNumber};
+ghost use Rattle.crossing.specs.Crossing.{geometryAlone, kept, keptAs};
+ghost use Rattle.crossing.specs.Records.{recordNumbers, flagNumber};
 ghost use Rattle.cface.specs.Blocks.{freeSpaceIn, recordEmptyIn, addUsedBytesIn, updateStatsAfterEraseIn};
 
 // What is left of a block.
@@ -24,7 +24,7 @@ pub extern "C" fn stumpchoir_record_free_space(
     ensures { λ r. ⌜ r ≡ numberOf (freeSpaceIn (geometryAlone granularity s c size count) (now (numbers .entry))) ⌝ }
     ensures { λ _. ⌜ now (space .exit) ≡ kept (freeSpaceIn (geometryAlone granularity s c size count) (now (numbers .entry))) (now (space .entry)) ⌝ }
 {
-    let told = crossing::geometry_alone(granularity, s, c, size, count);
+    let told = call::geometry_alone(granularity, s, c, size, count);
     let GeometryRead::Got(g) = told else {
         return told.number();
     };
@@ -56,7 +56,7 @@ pub extern "C" fn stumpchoir_record_is_empty(
     ensures { λ r. ⌜ r ≡ numberOf (recordEmptyIn (geometryAlone granularity s c size count) (now (numbers .entry))) ⌝ }
     ensures { λ _. ⌜ now (empty .exit) ≡ keptAs flagNumber (recordEmptyIn (geometryAlone granularity s c size count) (now (numbers .entry))) (now (empty .entry)) ⌝ }
 {
-    let told = crossing::geometry_alone(granularity, s, c, size, count);
+    let told = call::geometry_alone(granularity, s, c, size, count);
     let GeometryRead::Got(g) = told else {
         return told.number();
     };
@@ -82,7 +82,7 @@ pub extern "C" fn stumpchoir_record_add_used_bytes(
     ensures { λ r. ⌜ r ≡ numberOf (addUsedBytesIn (geometryAlone granularity s c size count) (now (numbers .entry)) «total_size») ⌝ }
     ensures { λ _. ⌜ now (numbers .exit) ≡ keptAs recordNumbers (addUsedBytesIn (geometryAlone granularity s c size count) (now (numbers .entry)) «total_size») (now (numbers .entry)) ⌝ }
 {
-    let told = crossing::geometry_alone(granularity, s, c, size, count);
+    let told = call::geometry_alone(granularity, s, c, size, count);
     let GeometryRead::Got(g) = told else {
         return told.number();
     };
@@ -107,7 +107,7 @@ pub extern "C" fn stumpchoir_record_update_stats_after_erase(
     ensures { λ r. ⌜ r ≡ numberOf (updateStatsAfterEraseIn (geometryAlone granularity s c size count) (now (numbers .entry))) ⌝ }
     ensures { λ _. ⌜ now (numbers .exit) ≡ keptAs recordNumbers (updateStatsAfterEraseIn (geometryAlone granularity s c size count) (now (numbers .entry))) (now (numbers .entry)) ⌝ }
 {
-    let told = crossing::geometry_alone(granularity, s, c, size, count);
+    let told = call::geometry_alone(granularity, s, c, size, count);
     let GeometryRead::Got(g) = told else {
         return told.number();
     };

@@ -1,6 +1,6 @@
 use mathlib.Core.Path.{sym, _∙_}
-use Rattle.cface.proofs.Crossings.{got, named-none, under-on, under-stop}
-use Rattle.cface.proofs.Ends.{end-on, end-stop}
+use Rattle.crossing.proofs.Crossings.{got, named-none, under-on, under-stop}
+use Rattle.crossing.proofs.Ends.{end-on, end-stop}
 use borrow.Author.Needs.{needs}
 use Rattle.cface.proofs.block_calls.stumpchoir_block_header_write.Statement.{statement}
 use Rattle.cface.proofs.block_calls.stumpchoir_block_header_write.Tie as tie
@@ -9,10 +9,10 @@ use Rattle.cface.proofs.block_calls.stumpchoir_block_header_write.Lts a
 use Rattle.blocks.proofs.header.BlockHeader.write.Reads as write-reads
 use Rattle.blocks.proofs.header.BlockHeaderKind.of_number.Reads as of-number-reads
 use Rattle.blocks.proofs.header.KindRead.number.Reads as header-KindRead-number-reads
-use Rattle.cface.proofs.crossing.GeometryRead.number.Reads as crossing-GeometryRead-number-reads
-use Rattle.cface.proofs.crossing.fuse_of.Reads as fuse-of-reads
-use Rattle.cface.proofs.crossing.geometry_for.Reads as geometry-for-reads
-use Rattle.cface.proofs.crossing.hand_back.Reads as hand-back-reads
+use Rattle.crossing.proofs.call.GeometryRead.number.Reads as crossing-GeometryRead-number-reads
+use Rattle.crossing.proofs.call.fuse_of.Reads as fuse-of-reads
+use Rattle.crossing.proofs.call.geometry_for.Reads as geometry-for-reads
+use Rattle.crossing.proofs.call.hand_back.Reads as hand-back-reads
 
 -- src/block_calls.rt:57:9
 geometry-for-requires : tie.Need-geometry-for-requires

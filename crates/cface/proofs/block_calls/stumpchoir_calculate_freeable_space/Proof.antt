@@ -1,5 +1,5 @@
 use mathlib.Core.Path.{refl}
-use Rattle.cface.proofs.Crossings.{question-on, question-stop}
+use Rattle.crossing.proofs.Crossings.{question-on, question-stop}
 use borrow.Author.Needs.{needs}
 use Rattle.cface.proofs.block_calls.stumpchoir_calculate_freeable_space.Statement.{
   statement,
@@ -8,8 +8,8 @@ use Rattle.cface.proofs.block_calls.stumpchoir_calculate_freeable_space
 use Rattle.cface.proofs.block_calls.stumpchoir_calculate_freeable_space.Reads as reads
 use Rattle.cface.proofs.block_calls.stumpchoir_calculate_freeable_space.Lts as lts
 use Rattle.blocks.proofs.scan.calculate_freeable_space.Reads as calculate-freeable-space-reads
-use Rattle.cface.proofs.crossing.GeometryRead.number.Reads as number-reads
-use Rattle.cface.proofs.crossing.geometry_of.Reads as geometry-of-reads
+use Rattle.crossing.proofs.call.GeometryRead.number.Reads as number-reads
+use Rattle.crossing.proofs.call.geometry_of.Reads as geometry-of-reads
 
 -- src/block_calls.rt:214:9
 geometry-of-requires : tie.Need-geometry-of-requires

@@ -1,14 +1,14 @@
-use Rattle.cface.proofs.Crossings.{store-on, store-stop}
+use Rattle.crossing.proofs.Crossings.{store-on, store-stop}
 use borrow.Author.Needs.{needs}
 use Rattle.cface.proofs.block_calls.stumpchoir_format_block.Statement.{statement}
 use Rattle.cface.proofs.block_calls.stumpchoir_format_block.Tie as tie
 use Rattle.cface.proofs.block_calls.stumpchoir_format_block.Reads as reads
 use Rattle.cface.proofs.block_calls.stumpchoir_format_block.Lts as lts
 use Rattle.blocks.proofs.format.format_block.Reads as format-block-reads
-use Rattle.cface.proofs.crossing.GeometryRead.number.Reads as number-reads
-use Rattle.cface.proofs.crossing.fuse_of.Reads as fuse-of-reads
-use Rattle.cface.proofs.crossing.geometry_of.Reads as geometry-of-reads
-use Rattle.cface.proofs.crossing.hand_back.Reads as hand-back-reads
+use Rattle.crossing.proofs.call.GeometryRead.number.Reads as number-reads
+use Rattle.crossing.proofs.call.fuse_of.Reads as fuse-of-reads
+use Rattle.crossing.proofs.call.geometry_of.Reads as geometry-of-reads
+use Rattle.crossing.proofs.call.hand_back.Reads as hand-back-reads
 
 -- src/block_calls.rt:112:9
 geometry-of-requires : tie.Need-geometry-of-requires

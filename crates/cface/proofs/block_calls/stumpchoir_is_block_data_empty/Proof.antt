@@ -1,14 +1,14 @@
 use mathlib.Core.Path.{refl}
-use Rattle.cface.proofs.Crossings.{question-on, question-stop}
+use Rattle.crossing.proofs.Crossings.{question-on, question-stop}
 use borrow.Author.Needs.{needs}
 use Rattle.cface.proofs.block_calls.stumpchoir_is_block_data_empty.Statement.{statement}
 use Rattle.cface.proofs.block_calls.stumpchoir_is_block_data_empty.Tie as tie
 use Rattle.cface.proofs.block_calls.stumpchoir_is_block_data_empty.Reads as reads
 use Rattle.cface.proofs.block_calls.stumpchoir_is_block_data_empty.Lts as lts
 use Rattle.blocks.proofs.format.is_block_data_empty.Reads as is-block-data-empty-reads
-use Rattle.cface.proofs.crossing.GeometryRead.number.Reads as number-reads
-use Rattle.cface.proofs.crossing.geometry_of.Reads as geometry-of-reads
-use Rattle.cface.proofs.records.hand_flag.Reads as hand-flag-reads
+use Rattle.crossing.proofs.call.GeometryRead.number.Reads as number-reads
+use Rattle.crossing.proofs.call.geometry_of.Reads as geometry-of-reads
+use Rattle.crossing.proofs.records.hand_flag.Reads as hand-flag-reads
 
 -- src/block_calls.rt:89:9
 geometry-of-requires : tie.Need-geometry-of-requires

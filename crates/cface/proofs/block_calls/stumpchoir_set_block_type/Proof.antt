@@ -1,18 +1,18 @@
 use mathlib.Core.Path.{sym, _∙_}
-use Rattle.cface.proofs.Crossings.{got, named-none, under-on, under-stop}
-use Rattle.cface.proofs.Ends.{end-on, end-stop}
+use Rattle.crossing.proofs.Crossings.{got, named-none, under-on, under-stop}
+use Rattle.crossing.proofs.Ends.{end-on, end-stop}
 use borrow.Author.Needs.{needs}
 use Rattle.cface.proofs.block_calls.stumpchoir_set_block_type.Statement.{statement}
 use Rattle.cface.proofs.block_calls.stumpchoir_set_block_type.Tie as tie
 use Rattle.cface.proofs.block_calls.stumpchoir_set_block_type.Reads as reads
 use Rattle.cface.proofs.block_calls.stumpchoir_set_block_type.Lts as lts
 use Rattle.blocks.proofs.format.set_block_type.Reads as set-block-type-reads
-use Rattle.cface.proofs.crossing.GeometryRead.number.Reads as crossing-GeometryRead-number-reads
-use Rattle.cface.proofs.crossing.fuse_of.Reads as fuse-of-reads
-use Rattle.cface.proofs.crossing.geometry_for.Reads as geometry-for-reads
-use Rattle.cface.proofs.crossing.hand_back.Reads as hand-back-reads
-use Rattle.cface.proofs.records.BlockTypeRead.number.Reads as records-BlockTypeRead-number-reads
-use Rattle.cface.proofs.records.type_of.Reads as type-of-reads
+use Rattle.crossing.proofs.call.GeometryRead.number.Reads as crossing-GeometryRead-number-reads
+use Rattle.crossing.proofs.call.fuse_of.Reads as fuse-of-reads
+use Rattle.crossing.proofs.call.geometry_for.Reads as geometry-for-reads
+use Rattle.crossing.proofs.call.hand_back.Reads as hand-back-reads
+use Rattle.crossing.proofs.records.BlockTypeRead.number.Reads as records-BlockTypeRead-number-reads
+use Rattle.crossing.proofs.records.type_of.Reads as type-of-reads
 
 -- src/block_calls.rt:186:9
 geometry-for-requires : tie.Need-geometry-for-requires

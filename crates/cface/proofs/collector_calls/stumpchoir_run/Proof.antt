@@ -1,13 +1,13 @@
-use Rattle.cface.proofs.Crossings.{store-on, store-stop}
+use Rattle.crossing.proofs.Crossings.{store-on, store-stop}
 use borrow.Author.Needs.{needs}
 use Rattle.cface.proofs.collector_calls.stumpchoir_run.Statement.{statement}
 use Rattle.cface.proofs.collector_calls.stumpchoir_run.Tie as tie
 use Rattle.cface.proofs.collector_calls.stumpchoir_run.Reads as reads
 use Rattle.cface.proofs.collector_calls.stumpchoir_run.Lts as lts
-use Rattle.cface.proofs.crossing.GeometryRead.number.Reads as number-reads
-use Rattle.cface.proofs.crossing.fuse_of.Reads as fuse-of-reads
-use Rattle.cface.proofs.crossing.geometry_of.Reads as geometry-of-reads
-use Rattle.cface.proofs.crossing.hand_back.Reads as hand-back-reads
+use Rattle.crossing.proofs.call.GeometryRead.number.Reads as number-reads
+use Rattle.crossing.proofs.call.fuse_of.Reads as fuse-of-reads
+use Rattle.crossing.proofs.call.geometry_of.Reads as geometry-of-reads
+use Rattle.crossing.proofs.call.hand_back.Reads as hand-back-reads
 use Rattle.collector.proofs.passes.run.Reads as run-reads
 
 -- src/collector_calls.rt:98:9

@@ -1,13 +1,13 @@
 use mathlib.Core.Path.{refl}
-use Rattle.cface.proofs.Crossings.{question-on, question-stop}
+use Rattle.crossing.proofs.Crossings.{question-on, question-stop}
 use borrow.Author.Needs.{needs}
 use Rattle.cface.proofs.header_calls.stumpchoir_header_read.Statement.{statement}
 use Rattle.cface.proofs.header_calls.stumpchoir_header_read.Tie as tie
 use Rattle.cface.proofs.header_calls.stumpchoir_header_read.Reads as reads
 use Rattle.cface.proofs.header_calls.stumpchoir_header_read.Lts as lts
-use Rattle.cface.proofs.crossing.GeometryRead.number.Reads as crossing-GeometryRead-number-reads
-use Rattle.cface.proofs.crossing.geometry_of.Reads as geometry-of-reads
-use Rattle.cface.proofs.values.put_header.Reads as put-header-reads
+use Rattle.crossing.proofs.call.GeometryRead.number.Reads as crossing-GeometryRead-number-reads
+use Rattle.crossing.proofs.call.geometry_of.Reads as geometry-of-reads
+use Rattle.crossing.proofs.values.put_header.Reads as put-header-reads
 use Rattle.objects.proofs.header.HeaderRead.number.Reads as header-HeaderRead-number-reads
 use Rattle.objects.proofs.header.ObjectHeader.read.Reads as read-reads
 

@@ -1,15 +1,15 @@
 use mathlib.Core.Path.{sym, _∙_}
-use Rattle.cface.proofs.Crossings.{got, named-none, under-on, under-stop, with-on, with-stop}
+use Rattle.crossing.proofs.Crossings.{got, named-none, under-on, under-stop, with-on, with-stop}
 use borrow.Author.Needs.{needs}
 use Rattle.cface.proofs.header_calls.stumpchoir_set_payload_size.Statement.{statement}
 use Rattle.cface.proofs.header_calls.stumpchoir_set_payload_size.Tie as tie
 use Rattle.cface.proofs.header_calls.stumpchoir_set_payload_size.Reads as reads
 use Rattle.cface.proofs.header_calls.stumpchoir_set_payload_size.Lts as lts
-use Rattle.cface.proofs.crossing.GeometryRead.number.Reads as crossing-GeometryRead-number-reads
-use Rattle.cface.proofs.crossing.fuse_of.Reads as fuse-of-reads
-use Rattle.cface.proofs.crossing.geometry_for.Reads as geometry-for-reads
-use Rattle.cface.proofs.values.hand_back.Reads as hand-back-reads
-use Rattle.cface.proofs.values.header_of.Reads as header-of-reads
+use Rattle.crossing.proofs.call.GeometryRead.number.Reads as crossing-GeometryRead-number-reads
+use Rattle.crossing.proofs.call.fuse_of.Reads as fuse-of-reads
+use Rattle.crossing.proofs.call.geometry_for.Reads as geometry-for-reads
+use Rattle.crossing.proofs.values.hand_back.Reads as hand-back-reads
+use Rattle.crossing.proofs.values.header_of.Reads as header-of-reads
 use Rattle.objects.proofs.header.HeaderRead.number.Reads as header-HeaderRead-number-reads
 use Rattle.objects.proofs.header.ObjectHeader.set_payload_size.Reads as set-payload-size-reads
 

@@ -1,5 +1,5 @@
 use mathlib.Core.Path.{sym, _∙_}
-use Rattle.cface.proofs.Crossings.{got, named-none, under-on, under-stop, with-on, with-stop}
+use Rattle.crossing.proofs.Crossings.{got, named-none, under-on, under-stop, with-on, with-stop}
 use borrow.Author.Needs.{needs}
 use Rattle.cface.proofs.info_calls.stumpchoir_info_finalize.Statement.{statement}
 use Rattle.cface.proofs.info_calls.stumpchoir_info_finalize.Tie as tie

@@ -1,13 +1,13 @@
 use mathlib.Core.Path.{refl}
-use Rattle.cface.proofs.Crossings.{question-on, question-stop}
+use Rattle.crossing.proofs.Crossings.{question-on, question-stop}
 use borrow.Author.Needs.{needs}
 use Rattle.cface.proofs.info_calls.stumpchoir_info_read.Statement.{statement}
 use Rattle.cface.proofs.info_calls.stumpchoir_info_read.Tie as tie
 use Rattle.cface.proofs.info_calls.stumpchoir_info_read.Reads as reads
 use Rattle.cface.proofs.info_calls.stumpchoir_info_read.Lts as lts
-use Rattle.cface.proofs.crossing.GeometryRead.number.Reads as number-reads
-use Rattle.cface.proofs.crossing.geometry_of.Reads as geometry-of-reads
-use Rattle.cface.proofs.values.put_header.Reads as put-header-reads
+use Rattle.crossing.proofs.call.GeometryRead.number.Reads as number-reads
+use Rattle.crossing.proofs.call.geometry_of.Reads as geometry-of-reads
+use Rattle.crossing.proofs.values.put_header.Reads as put-header-reads
 use Rattle.objects.proofs.info.read.Reads as read-reads
 
 -- src/info_calls.rt:36:9

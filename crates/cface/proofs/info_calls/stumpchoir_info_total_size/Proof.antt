@@ -1,5 +1,5 @@
 use mathlib.Core.Path.{refl}
-use Rattle.cface.proofs.Crossings.{question-on, question-stop}
+use Rattle.crossing.proofs.Crossings.{question-on, question-stop}
 use borrow.Author.Needs.{needs}
 use Rattle.cface.proofs.info_calls.stumpchoir_info_total_size.Statement.{statement}
 use Rattle.cface.proofs.info_calls.stumpchoir_info_total_size.Tie as tie

@@ -1,13 +1,13 @@
 use mathlib.Core.Path.{refl}
-use Rattle.cface.proofs.Crossings.{question-on, question-stop}
+use Rattle.crossing.proofs.Crossings.{question-on, question-stop}
 use borrow.Author.Needs.{needs}
 use Rattle.cface.proofs.iterator_calls.stumpchoir_iterator_new.Statement.{statement}
 use Rattle.cface.proofs.iterator_calls.stumpchoir_iterator_new.Tie as tie
 use Rattle.cface.proofs.iterator_calls.stumpchoir_iterator_new.Reads as reads
 use Rattle.cface.proofs.iterator_calls.stumpchoir_iterator_new.Lts as lts
-use Rattle.cface.proofs.crossing.GeometryRead.number.Reads as number-reads
-use Rattle.cface.proofs.crossing.geometry_alone.Reads as geometry-alone-reads
-use Rattle.cface.proofs.values.put_iterator.Reads as put-iterator-reads
+use Rattle.crossing.proofs.call.GeometryRead.number.Reads as number-reads
+use Rattle.crossing.proofs.call.geometry_alone.Reads as geometry-alone-reads
+use Rattle.crossing.proofs.values.put_iterator.Reads as put-iterator-reads
 use Rattle.objects.proofs.iterator.ObjectIterator.new.Reads as new-reads
 
 -- src/iterator_calls.rt:27:9

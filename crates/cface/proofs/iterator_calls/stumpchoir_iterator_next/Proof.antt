@@ -1,15 +1,15 @@
 use mathlib.Core.Path.{refl}
-use Rattle.cface.proofs.Crossings.{question-on, question-stop}
+use Rattle.crossing.proofs.Crossings.{question-on, question-stop}
 use borrow.Author.Needs.{needs}
 use Rattle.cface.proofs.iterator_calls.stumpchoir_iterator_next.Statement.{statement}
 use Rattle.cface.proofs.iterator_calls.stumpchoir_iterator_next.Tie as tie
 use Rattle.cface.proofs.iterator_calls.stumpchoir_iterator_next.Reads as reads
 use Rattle.cface.proofs.iterator_calls.stumpchoir_iterator_next.Lts as lts
-use Rattle.cface.proofs.crossing.GeometryRead.number.Reads as number-reads
-use Rattle.cface.proofs.crossing.geometry_of.Reads as geometry-of-reads
-use Rattle.cface.proofs.values.iterator_of.Reads as iterator-of-reads
-use Rattle.cface.proofs.values.put_header.Reads as put-header-reads
-use Rattle.cface.proofs.values.put_iterator.Reads as put-iterator-reads
+use Rattle.crossing.proofs.call.GeometryRead.number.Reads as number-reads
+use Rattle.crossing.proofs.call.geometry_of.Reads as geometry-of-reads
+use Rattle.crossing.proofs.values.iterator_of.Reads as iterator-of-reads
+use Rattle.crossing.proofs.values.put_header.Reads as put-header-reads
+use Rattle.crossing.proofs.values.put_iterator.Reads as put-iterator-reads
 use Rattle.objects.proofs.iterator.ObjectIterator.next.Reads as next-reads
 
 -- src/iterator_calls.rt:53:9

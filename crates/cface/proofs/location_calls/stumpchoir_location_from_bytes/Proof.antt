@@ -1,13 +1,13 @@
 use mathlib.Core.Path.{refl}
-use Rattle.cface.proofs.Crossings.{question-on, question-stop}
+use Rattle.crossing.proofs.Crossings.{question-on, question-stop}
 use borrow.Author.Needs.{needs}
 use Rattle.cface.proofs.location_calls.stumpchoir_location_from_bytes.Statement.{statement}
 use Rattle.cface.proofs.location_calls.stumpchoir_location_from_bytes.Tie as tie
 use Rattle.cface.proofs.location_calls.stumpchoir_location_from_bytes.Reads as reads
 use Rattle.cface.proofs.location_calls.stumpchoir_location_from_bytes.Lts as lts
-use Rattle.cface.proofs.crossing.GeometryRead.number.Reads as crossing-GeometryRead-number-reads
-use Rattle.cface.proofs.crossing.geometry_of.Reads as geometry-of-reads
-use Rattle.cface.proofs.values.put_location.Reads as put-location-reads
+use Rattle.crossing.proofs.call.GeometryRead.number.Reads as crossing-GeometryRead-number-reads
+use Rattle.crossing.proofs.call.geometry_of.Reads as geometry-of-reads
+use Rattle.crossing.proofs.values.put_location.Reads as put-location-reads
 use Rattle.objects.proofs.location.LocationRead.number.Reads as location-LocationRead-number-reads
 use Rattle.objects.proofs.location.ObjectLocation.from_bytes.Reads as from-bytes-reads
 

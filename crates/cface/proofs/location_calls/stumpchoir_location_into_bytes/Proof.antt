@@ -1,13 +1,13 @@
 use mathlib.Core.Path.{refl}
 use native.Mathlib.Omega.{arith}
-use Rattle.cface.proofs.Crossings.{got, alone-sound, question-on, question-stop}
+use Rattle.crossing.proofs.Crossings.{got, alone-sound, question-on, question-stop}
 use borrow.Author.Needs.{needs}
 use Rattle.cface.proofs.location_calls.stumpchoir_location_into_bytes.Statement.{statement}
 use Rattle.cface.proofs.location_calls.stumpchoir_location_into_bytes.Tie as tie
 use Rattle.cface.proofs.location_calls.stumpchoir_location_into_bytes.Reads as reads
 use Rattle.cface.proofs.location_calls.stumpchoir_location_into_bytes.Lts as lts
-use Rattle.cface.proofs.crossing.GeometryRead.number.Reads as number-reads
-use Rattle.cface.proofs.crossing.geometry_alone.Reads as geometry-alone-reads
+use Rattle.crossing.proofs.call.GeometryRead.number.Reads as number-reads
+use Rattle.crossing.proofs.call.geometry_alone.Reads as geometry-alone-reads
 use Rattle.cface.proofs.location_calls.into_first.Reads as into-first-reads
 
 -- src/location_calls.rt:35:9

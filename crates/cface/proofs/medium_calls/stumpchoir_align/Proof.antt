@@ -1,12 +1,12 @@
-use Rattle.cface.proofs.Crossings.{question-on, question-stop}
+use Rattle.crossing.proofs.Crossings.{question-on, question-stop}
 use mathlib.Core.Path.{refl}
 use borrow.Author.Needs.{needs}
 use Rattle.cface.proofs.medium_calls.stumpchoir_align.Statement.{statement}
 use Rattle.cface.proofs.medium_calls.stumpchoir_align.Tie as tie
 use Rattle.cface.proofs.medium_calls.stumpchoir_align.Reads as reads
 use Rattle.cface.proofs.medium_calls.stumpchoir_align.Lts as lts
-use Rattle.cface.proofs.crossing.GeometryRead.number.Reads as number-reads
-use Rattle.cface.proofs.crossing.geometry_of.Reads as geometry-of-reads
+use Rattle.crossing.proofs.call.GeometryRead.number.Reads as number-reads
+use Rattle.crossing.proofs.call.geometry_of.Reads as geometry-of-reads
 use Rattle.medium.proofs.geometry.align.Reads as align-reads
 
 -- src/medium_calls.rt:44:9

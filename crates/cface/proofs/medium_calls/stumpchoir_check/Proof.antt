@@ -1,12 +1,12 @@
-use Rattle.cface.proofs.Crossings.{question-on, question-stop, number-of-test}
+use Rattle.crossing.proofs.Crossings.{question-on, question-stop, number-of-test}
 use mathlib.Core.Path.{sym, _∙_}
 use borrow.Author.Needs.{needs}
 use Rattle.cface.proofs.medium_calls.stumpchoir_check.Statement.{statement}
 use Rattle.cface.proofs.medium_calls.stumpchoir_check.Tie as tie
 use Rattle.cface.proofs.medium_calls.stumpchoir_check.Reads as reads
 use Rattle.cface.proofs.medium_calls.stumpchoir_check.Lts as lts
-use Rattle.cface.proofs.crossing.GeometryRead.number.Reads as number-reads
-use Rattle.cface.proofs.crossing.geometry_of.Reads as geometry-of-reads
+use Rattle.crossing.proofs.call.GeometryRead.number.Reads as number-reads
+use Rattle.crossing.proofs.call.geometry_of.Reads as geometry-of-reads
 use Rattle.medium.proofs.geometry.check.Reads as check-reads
 
 -- src/medium_calls.rt:23:9

@@ -1,12 +1,12 @@
-use Rattle.cface.proofs.Crossings.{question-on, question-stop, heard-kept}
+use Rattle.crossing.proofs.Crossings.{question-on, question-stop, heard-kept}
 use mathlib.Core.Path.{refl, _∙_}
 use borrow.Author.Needs.{needs}
 use Rattle.cface.proofs.medium_calls.stumpchoir_read.Statement.{statement}
 use Rattle.cface.proofs.medium_calls.stumpchoir_read.Tie as tie
 use Rattle.cface.proofs.medium_calls.stumpchoir_read.Reads as reads
 use Rattle.cface.proofs.medium_calls.stumpchoir_read.Lts as lts
-use Rattle.cface.proofs.crossing.GeometryRead.number.Reads as crossing-GeometryRead-number-reads
-use Rattle.cface.proofs.crossing.geometry_of.Reads as geometry-of-reads
+use Rattle.crossing.proofs.call.GeometryRead.number.Reads as crossing-GeometryRead-number-reads
+use Rattle.crossing.proofs.call.geometry_of.Reads as geometry-of-reads
 use Rattle.medium.proofs.fuse.Answered.number.Reads as fuse-Answered-number-reads
 use Rattle.medium.proofs.read.Reads as read-reads
 

@@ -1,6 +1,6 @@
 use mathlib.Core.Path.{refl}
 use native.Mathlib.Omega.{arith}
-use Rattle.cface.proofs.Crossings.{question-on, question-stop}
+use Rattle.crossing.proofs.Crossings.{question-on, question-stop}
 use Rattle.cface.proofs.Bounds.{past-fits}
 use borrow.Author.Needs.{needs}
 use Rattle.cface.proofs.metadata_calls.stumpchoir_metadata_next_object_location.Statement.{
@@ -9,11 +9,11 @@ use Rattle.cface.proofs.metadata_calls.stumpchoir_metadata_next_object_
 use Rattle.cface.proofs.metadata_calls.stumpchoir_metadata_next_object_location.Tie as tie
 use Rattle.cface.proofs.metadata_calls.stumpchoir_metadata_next_object_location.Reads as reads
 use Rattle.cface.proofs.metadata_calls.stumpchoir_metadata_next_object_location.Lts as lts
-use Rattle.cface.proofs.crossing.GeometryRead.number.Reads as crossing-GeometryRead-number-reads
-use Rattle.cface.proofs.crossing.geometry_for.Reads as geometry-for-reads
-use Rattle.cface.proofs.values.metadata_of.Reads as metadata-of-reads
-use Rattle.cface.proofs.values.put_location.Reads as put-location-reads
-use Rattle.cface.proofs.values.put_metadata.Reads as put-metadata-reads
+use Rattle.crossing.proofs.call.GeometryRead.number.Reads as crossing-GeometryRead-number-reads
+use Rattle.crossing.proofs.call.geometry_for.Reads as geometry-for-reads
+use Rattle.crossing.proofs.values.metadata_of.Reads as metadata-of-reads
+use Rattle.crossing.proofs.values.put_location.Reads as put-location-reads
+use Rattle.cface.proofs.outs.put_metadata.Reads as put-metadata-reads
 use Rattle.objects.proofs.metadata.MetadataObjectHeader.next_object_location.Reads as next-object-location-reads
 use Rattle.objects.proofs.metadata.MetadataRead.number.Reads as metadata-MetadataRead-number-reads
 

@@ -1,7 +1,7 @@
 use mathlib.Core.Path.{refl, sym, ap}
 use native.Mathlib.Omega.{arith}
 use Rattle.objects.specs.declared.metadata.MetadataObjectHeader.{MetadataObjectHeader}
-use Rattle.cface.proofs.Crossings.{question-on, question-stop}
+use Rattle.crossing.proofs.Crossings.{question-on, question-stop}
 use borrow.Author.Needs.{needs}
 use Rattle.cface.proofs.metadata_calls.stumpchoir_metadata_reset.Statement.{statement}
 use Rattle.cface.proofs.metadata_calls.stumpchoir_metadata_reset.Tie as tie

@@ -1,15 +1,15 @@
 use mathlib.Core.Path.{refl, sym}
 use native.Mathlib.Omega.{arith}
-use Rattle.cface.proofs.Crossings.{question-on, question-stop}
+use Rattle.crossing.proofs.Crossings.{question-on, question-stop}
 use Rattle.cface.proofs.Bounds.{len-small}
 use borrow.Author.Needs.{needs}
 use Rattle.cface.proofs.reader_calls.stumpchoir_reader_len.Statement.{statement}
 use Rattle.cface.proofs.reader_calls.stumpchoir_reader_len.Tie as tie
 use Rattle.cface.proofs.reader_calls.stumpchoir_reader_len.Reads as reads
 use Rattle.cface.proofs.reader_calls.stumpchoir_reader_len.Lts as lts
-use Rattle.cface.proofs.crossing.GeometryRead.number.Reads as crossing-GeometryRead-number-reads
-use Rattle.cface.proofs.crossing.geometry_alone.Reads as geometry-alone-reads
-use Rattle.cface.proofs.values.reader_of.Reads as reader-of-reads
+use Rattle.crossing.proofs.call.GeometryRead.number.Reads as crossing-GeometryRead-number-reads
+use Rattle.crossing.proofs.call.geometry_alone.Reads as geometry-alone-reads
+use Rattle.crossing.proofs.values.reader_of.Reads as reader-of-reads
 use Rattle.medium.proofs.geometry.Counted.number.Reads as geometry-Counted-number-reads
 use Rattle.objects.proofs.reader.ObjectReader.len.Reads as len-reads
 use Rattle.objects.proofs.reader.ReaderRead.number.Reads as reader-ReaderRead-number-reads

@@ -1,15 +1,15 @@
 use mathlib.Core.Path.{refl, sym}
 use native.Mathlib.Omega.{arith}
-use Rattle.cface.proofs.Crossings.{question-on, question-stop}
+use Rattle.crossing.proofs.Crossings.{question-on, question-stop}
 use Rattle.cface.proofs.Bounds.{new-cursor}
 use borrow.Author.Needs.{needs}
 use Rattle.cface.proofs.reader_calls.stumpchoir_reader_new.Statement.{statement}
 use Rattle.cface.proofs.reader_calls.stumpchoir_reader_new.Tie as tie
 use Rattle.cface.proofs.reader_calls.stumpchoir_reader_new.Reads as reads
 use Rattle.cface.proofs.reader_calls.stumpchoir_reader_new.Lts as lts
-use Rattle.cface.proofs.crossing.GeometryRead.number.Reads as crossing-GeometryRead-number-reads
-use Rattle.cface.proofs.crossing.geometry_of.Reads as geometry-of-reads
-use Rattle.cface.proofs.values.put_reader.Reads as put-reader-reads
+use Rattle.crossing.proofs.call.GeometryRead.number.Reads as crossing-GeometryRead-number-reads
+use Rattle.crossing.proofs.call.geometry_of.Reads as geometry-of-reads
+use Rattle.cface.proofs.outs.put_reader.Reads as put-reader-reads
 use Rattle.objects.proofs.reader.ObjectReader.new.Reads as new-reads
 use Rattle.objects.proofs.reader.ReaderRead.number.Reads as reader-ReaderRead-number-reads
 

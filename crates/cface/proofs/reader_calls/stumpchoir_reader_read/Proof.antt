@@ -3,17 +3,17 @@ use lib.ListN.{length}
 use Rattle.cface.proofs.Bounds.{read-fits}
 use mathlib.Core.Path.{refl, _∙_}
 use native.Mathlib.Omega.{arith}
-use Rattle.cface.proofs.Crossings.{question-on, question-stop}
+use Rattle.crossing.proofs.Crossings.{question-on, question-stop}
 use Rattle.cface.proofs.Conversions.{chunk-on, chunk-stop}
 use borrow.Author.Needs.{needs}
 use Rattle.cface.proofs.reader_calls.stumpchoir_reader_read.Statement.{statement}
 use Rattle.cface.proofs.reader_calls.stumpchoir_reader_read.Tie as tie
 use Rattle.cface.proofs.reader_calls.stumpchoir_reader_read.Reads as reads
 use Rattle.cface.proofs.reader_calls.stumpchoir_reader_read.Lts as lts
-use Rattle.cface.proofs.crossing.GeometryRead.number.Reads as crossing-GeometryRead-number-reads
-use Rattle.cface.proofs.crossing.geometry_for.Reads as geometry-for-reads
-use Rattle.cface.proofs.values.put_reader.Reads as put-reader-reads
-use Rattle.cface.proofs.values.reader_of.Reads as reader-of-reads
+use Rattle.crossing.proofs.call.GeometryRead.number.Reads as crossing-GeometryRead-number-reads
+use Rattle.crossing.proofs.call.geometry_for.Reads as geometry-for-reads
+use Rattle.cface.proofs.outs.put_reader.Reads as put-reader-reads
+use Rattle.crossing.proofs.values.reader_of.Reads as reader-of-reads
 use Rattle.objects.proofs.reader.ObjectReader.read.Reads as read-reads
 use Rattle.objects.proofs.reader.ReaderRead.number.Reads as reader-ReaderRead-number-reads
 

@@ -1,16 +1,16 @@
 use mathlib.Core.Path.{refl, sym, ap}
 use native.Mathlib.Omega.{arith}
 use Rattle.objects.specs.declared.reader.ObjectReader.{ObjectReader}
-use Rattle.cface.proofs.Crossings.{question-on, question-stop}
+use Rattle.crossing.proofs.Crossings.{question-on, question-stop}
 use borrow.Author.Needs.{needs}
 use Rattle.cface.proofs.reader_calls.stumpchoir_reader_rewind.Statement.{statement}
 use Rattle.cface.proofs.reader_calls.stumpchoir_reader_rewind.Tie as tie
 use Rattle.cface.proofs.reader_calls.stumpchoir_reader_rewind.Reads as reads
 use Rattle.cface.proofs.reader_calls.stumpchoir_reader_rewind.Lts as lts
-use Rattle.cface.proofs.crossing.GeometryRead.number.Reads as crossing-GeometryRead-number-reads
-use Rattle.cface.proofs.crossing.geometry_alone.Reads as geometry-alone-reads
-use Rattle.cface.proofs.values.put_reader.Reads as put-reader-reads
-use Rattle.cface.proofs.values.reader_of.Reads as reader-of-reads
+use Rattle.crossing.proofs.call.GeometryRead.number.Reads as crossing-GeometryRead-number-reads
+use Rattle.crossing.proofs.call.geometry_alone.Reads as geometry-alone-reads
+use Rattle.cface.proofs.outs.put_reader.Reads as put-reader-reads
+use Rattle.crossing.proofs.values.reader_of.Reads as reader-of-reads
 use Rattle.objects.proofs.reader.ObjectReader.rewind.Reads as rewind-reads
 use Rattle.objects.proofs.reader.ReaderRead.number.Reads as reader-ReaderRead-number-reads
 

@@ -1,5 +1,5 @@
 use mathlib.Core.Path.{refl}
-use Rattle.cface.proofs.Crossings.{question-on, question-stop}
+use Rattle.crossing.proofs.Crossings.{question-on, question-stop}
 use borrow.Author.Needs.{needs}
 use Rattle.cface.proofs.record_calls.stumpchoir_record_add_used_bytes.Statement.{statement}
 use Rattle.cface.proofs.record_calls.stumpchoir_record_add_used_bytes.Tie as tie
@@ -7,10 +7,10 @@ use Rattle.cface.proofs.record_calls.stumpchoir_record_add_used_bytes.R
 use Rattle.cface.proofs.record_calls.stumpchoir_record_add_used_bytes.Lts as lts
 use Rattle.blocks.proofs.record.BlockInfo.add_used_bytes.Reads as add-used-bytes-reads
 use Rattle.blocks.proofs.record.BlockInfoRead.number.Reads as record-BlockInfoRead-number-reads
-use Rattle.cface.proofs.crossing.GeometryRead.number.Reads as crossing-GeometryRead-number-reads
-use Rattle.cface.proofs.crossing.geometry_alone.Reads as geometry-alone-reads
-use Rattle.cface.proofs.records.hand_record.Reads as hand-record-reads
-use Rattle.cface.proofs.records.record_of.Reads as record-of-reads
+use Rattle.crossing.proofs.call.GeometryRead.number.Reads as crossing-GeometryRead-number-reads
+use Rattle.crossing.proofs.call.geometry_alone.Reads as geometry-alone-reads
+use Rattle.crossing.proofs.records.hand_record.Reads as hand-record-reads
+use Rattle.crossing.proofs.records.record_of.Reads as record-of-reads
 
 -- src/record_calls.rt:85:9
 geometry-alone-requires : tie.Need-geometry-alone-requires

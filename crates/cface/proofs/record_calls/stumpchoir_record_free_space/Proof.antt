@@ -1,5 +1,5 @@
 use mathlib.Core.Path.{refl}
-use Rattle.cface.proofs.Crossings.{question-on, question-stop}
+use Rattle.crossing.proofs.Crossings.{question-on, question-stop}
 use native.Mathlib.Omega.{arith}
 use Rattle.cface.proofs.Spaces.{free-space-le}
 use borrow.Author.Needs.{needs}
@@ -9,9 +9,9 @@ use Rattle.cface.proofs.record_calls.stumpchoir_record_free_space.Reads
 use Rattle.cface.proofs.record_calls.stumpchoir_record_free_space.Lts as lts
 use Rattle.blocks.proofs.record.BlockInfo.free_space.Reads as free-space-reads
 use Rattle.blocks.proofs.record.BlockInfoRead.number.Reads as record-BlockInfoRead-number-reads
-use Rattle.cface.proofs.crossing.GeometryRead.number.Reads as crossing-GeometryRead-number-reads
-use Rattle.cface.proofs.crossing.geometry_alone.Reads as geometry-alone-reads
-use Rattle.cface.proofs.records.record_of.Reads as record-of-reads
+use Rattle.crossing.proofs.call.GeometryRead.number.Reads as crossing-GeometryRead-number-reads
+use Rattle.crossing.proofs.call.geometry_alone.Reads as geometry-alone-reads
+use Rattle.crossing.proofs.records.record_of.Reads as record-of-reads
 
 -- src/record_calls.rt:27:9
 geometry-alone-requires : tie.Need-geometry-alone-requires

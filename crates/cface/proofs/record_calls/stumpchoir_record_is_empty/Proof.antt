@@ -1,5 +1,5 @@
 use mathlib.Core.Path.{refl}
-use Rattle.cface.proofs.Crossings.{question-on, question-stop}
+use Rattle.crossing.proofs.Crossings.{question-on, question-stop}
 use borrow.Author.Needs.{needs}
 use Rattle.cface.proofs.record_calls.stumpchoir_record_is_empty.Statement.{statement}
 use Rattle.cface.proofs.record_calls.stumpchoir_record_is_empty.Tie as tie
@@ -7,10 +7,10 @@ use Rattle.cface.proofs.record_calls.stumpchoir_record_is_empty.Reads a
 use Rattle.cface.proofs.record_calls.stumpchoir_record_is_empty.Lts as lts
 use Rattle.blocks.proofs.record.BlockInfo.is_empty.Reads as is-empty-reads
 use Rattle.blocks.proofs.record.BlockInfoRead.number.Reads as record-BlockInfoRead-number-reads
-use Rattle.cface.proofs.crossing.GeometryRead.number.Reads as crossing-GeometryRead-number-reads
-use Rattle.cface.proofs.crossing.geometry_alone.Reads as geometry-alone-reads
-use Rattle.cface.proofs.records.hand_flag.Reads as hand-flag-reads
-use Rattle.cface.proofs.records.record_of.Reads as record-of-reads
+use Rattle.crossing.proofs.call.GeometryRead.number.Reads as crossing-GeometryRead-number-reads
+use Rattle.crossing.proofs.call.geometry_alone.Reads as geometry-alone-reads
+use Rattle.crossing.proofs.records.hand_flag.Reads as hand-flag-reads
+use Rattle.crossing.proofs.records.record_of.Reads as record-of-reads
 
 -- src/record_calls.rt:59:9
 geometry-alone-requires : tie.Need-geometry-alone-requires

@@ -1,5 +1,5 @@
 use mathlib.Core.Path.{refl}
-use Rattle.cface.proofs.Crossings.{question-on, question-stop}
+use Rattle.crossing.proofs.Crossings.{question-on, question-stop}
 use borrow.Author.Needs.{needs}
 use Rattle.cface.proofs.record_calls.stumpchoir_record_update_stats_after_erase.Statement.{
   statement,
@@ -9,10 +9,10 @@ use Rattle.cface.proofs.record_calls.stumpchoir_record_update_stats_aft
 use Rattle.cface.proofs.record_calls.stumpchoir_record_update_stats_after_erase.Lts as lts
 use Rattle.blocks.proofs.record.BlockInfo.update_stats_after_erase.Reads as update-stats-after-erase-reads
 use Rattle.blocks.proofs.record.BlockInfoRead.number.Reads as record-BlockInfoRead-number-reads
-use Rattle.cface.proofs.crossing.GeometryRead.number.Reads as crossing-GeometryRead-number-reads
-use Rattle.cface.proofs.crossing.geometry_alone.Reads as geometry-alone-reads
-use Rattle.cface.proofs.records.hand_record.Reads as hand-record-reads
-use Rattle.cface.proofs.records.record_of.Reads as record-of-reads
+use Rattle.crossing.proofs.call.GeometryRead.number.Reads as crossing-GeometryRead-number-reads
+use Rattle.crossing.proofs.call.geometry_alone.Reads as geometry-alone-reads
+use Rattle.crossing.proofs.records.hand_record.Reads as hand-record-reads
+use Rattle.crossing.proofs.records.record_of.Reads as record-of-reads
 
 -- src/record_calls.rt:110:9
 geometry-alone-requires : tie.Need-geometry-alone-requires

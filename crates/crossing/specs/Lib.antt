@@ -1,0 +1,3 @@
+pub mod Crossing
+pub mod Values
+pub mod Records

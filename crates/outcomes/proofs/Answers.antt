@@ -1,0 +1,233 @@
+-- An answer is one: two that stand for the same value are the same.
+use mathlib.Core.Path.{_≡_, refl, sym, ap, _∙_}
+use mathlib.Core.Bool.{Bool, true, false}
+use mathlib.Core.List.{List}
+use Prim.Native.Nat.{ℕ}
+use Rattle.medium.specs.declared.fuse.Fuse.{Fuse}
+use Rattle.medium.specs.declared.fuse.Stored.{Stored}
+use Rattle.medium.specs.declared.fuse.Stored.the-variants as stored
+use Rattle.medium.specs.declared.fuse.Answered.{Answered}
+use Rattle.medium.specs.Operation.{Answer, done, refused, EndIn, End, ended, endedBy, answered, counted, unlessDone, unlessStored}
+use Rattle.medium.proofs.Outcome.{Same, one-outcome, one-value, one-answer, one-buffer}
+use Rattle.medium.specs.declared.geometry.Counted.{Counted}
+use Rattle.medium.specs.declared.geometry.Counted.the-variants as counted
+use Rattle.objects.specs.declared.location.LocationRead.{LocationRead}
+use Rattle.objects.specs.declared.location.LocationRead.the-variants as location
+use Rattle.objects.specs.declared.state.StateRead.{StateRead}
+use Rattle.objects.specs.declared.state.StateRead.the-variants as state
+use Rattle.objects.specs.declared.header.HeaderRead.{HeaderRead}
+use Rattle.objects.specs.declared.header.HeaderRead.the-variants as header
+use Rattle.objects.specs.declared.reader.ReaderRead.{ReaderRead}
+use Rattle.objects.specs.declared.reader.ReaderRead.the-variants as reader
+use Rattle.objects.specs.declared.metadata.MetadataRead.{MetadataRead}
+use Rattle.objects.specs.declared.metadata.MetadataRead.the-variants as metadata
+use Rattle.blocks.specs.declared.header.KindRead.{KindRead}
+use Rattle.blocks.specs.declared.header.KindRead.the-variants as kind
+use Rattle.blocks.specs.declared.header.BlockHeaderRead.{BlockHeaderRead}
+use Rattle.blocks.specs.declared.header.BlockHeaderRead.the-variants as block-header
+use Rattle.blocks.specs.declared.record.BlockInfoRead.{BlockInfoRead}
+use Rattle.blocks.specs.declared.record.BlockInfoRead.the-variants as block-info
+use Rattle.objects.specs.declared.header.ObjectHeader.{ObjectHeader}
+use Rattle.objects.specs.declared.header.Headed.{Headed}
+use Rattle.objects.specs.declared.info.InfoRead.{InfoRead}
+use Rattle.objects.specs.declared.info.InfoRead.the-variants as info
+use Rattle.objects.specs.Info.{Info, found, none, infoAnswer}
+use Rattle.writer.specs.declared.writer.ObjectWriter.{ObjectWriter}
+use Rattle.writer.specs.declared.writer.Writing.{Writing}
+use Rattle.writer.specs.declared.writer.Wrote.{Wrote}
+use Rattle.writer.specs.declared.writer.Wrote.the-variants as wrote
+use Rattle.writer.specs.Writer.{keptOf, wroteEnd}
+use Rattle.blocks.specs.declared.format.Emptiness.{Emptiness}
+use Rattle.blocks.specs.declared.format.Emptiness.the-variants as emptiness
+use Rattle.blocks.specs.Format.{emptinessAnswer}
+use Rattle.crossing.specs.declared.call.GeometryRead.{GeometryRead}
+use Rattle.crossing.specs.declared.call.GeometryRead.the-variants as geometry
+use Rattle.crossing.specs.declared.values.TargetRead.{TargetRead}
+use Rattle.crossing.specs.declared.values.TargetRead.the-variants as target
+use Rattle.crossing.specs.declared.records.BlockTypeRead.{BlockTypeRead}
+use Rattle.crossing.specs.declared.records.BlockTypeRead.the-variants as block-type
+use Rattle.outcomes.proofs.One.{one}
+
+-- ---- a value or a refusal
+
+abbrev back : {A X : Type 0} → (A → X) → (ℕ → X) → Answer A → X
+back got refuse (done v) = got v
+back got refuse (refused n) = refuse n
+
+pub counted-one : {r r′ : Counted} → counted r ≡ counted r′ → r ≡ r′
+counted-one = one counted (back counted.Bytes counted.Refused) (λ r. go r)
+  where
+    go : (r : Counted) → back counted.Bytes counted.Refused (counted r) ≡ r
+    go (counted.Bytes v) = refl
+    go (counted.Refused n) = refl
+
+pub location-one : {r r′ : LocationRead} → Rattle.objects.specs.Location.locationAnswer r ≡ Rattle.objects.specs.Location.locationAnswer r′ → r ≡ r′
+location-one = one Rattle.objects.specs.Location.locationAnswer (back location.Got location.Refused) (λ r. go r)
+  where
+    go : (r : LocationRead) → back location.Got location.Refused (Rattle.objects.specs.Location.locationAnswer r) ≡ r
+    go (location.Got v) = refl
+    go (location.Refused n) = refl
+
+pub state-one : {r r′ : StateRead} → Rattle.objects.specs.Header.stateAnswer r ≡ Rattle.objects.specs.Header.stateAnswer r′ → r ≡ r′
+state-one = one Rattle.objects.specs.Header.stateAnswer (back state.Got state.Refused) (λ r. go r)
+  where
+    go : (r : StateRead) → back state.Got state.Refused (Rattle.objects.specs.Header.stateAnswer r) ≡ r
+    go (state.Got v) = refl
+    go (state.Refused n) = refl
+
+pub header-one : {r r′ : HeaderRead} → Rattle.objects.specs.Header.headerAnswer r ≡ Rattle.objects.specs.Header.headerAnswer r′ → r ≡ r′
+header-one = one Rattle.objects.specs.Header.headerAnswer (back header.Got header.Refused) (λ r. go r)
+  where
+    go : (r : HeaderRead) → back header.Got header.Refused (Rattle.objects.specs.Header.headerAnswer r) ≡ r
+    go (header.Got v) = refl
+    go (header.Refused n) = refl
+
+pub reader-one : {r r′ : ReaderRead} → Rattle.objects.specs.Reader.readerAnswer r ≡ Rattle.objects.specs.Reader.readerAnswer r′ → r ≡ r′
+reader-one = one Rattle.objects.specs.Reader.readerAnswer (back reader.Got reader.Refused) (λ r. go r)
+  where
+    go : (r : ReaderRead) → back reader.Got reader.Refused (Rattle.objects.specs.Reader.readerAnswer r) ≡ r
+    go (reader.Got v) = refl
+    go (reader.Refused n) = refl
+
+pub metadata-one : {r r′ : MetadataRead} → Rattle.objects.specs.Metadata.metadataAnswer r ≡ Rattle.objects.specs.Metadata.metadataAnswer r′ → r ≡ r′
+metadata-one = one Rattle.objects.specs.Metadata.metadataAnswer (back metadata.Got metadata.Refused) (λ r. go r)
+  where
+    go : (r : MetadataRead) → back metadata.Got metadata.Refused (Rattle.objects.specs.Metadata.metadataAnswer r) ≡ r
+    go (metadata.Got v) = refl
+    go (metadata.Refused n) = refl
+
+pub kind-one : {r r′ : KindRead} → Rattle.blocks.specs.Record.kindAnswer r ≡ Rattle.blocks.specs.Record.kindAnswer r′ → r ≡ r′
+kind-one = one Rattle.blocks.specs.Record.kindAnswer (back kind.Got kind.Refused) (λ r. go r)
+  where
+    go : (r : KindRead) → back kind.Got kind.Refused (Rattle.blocks.specs.Record.kindAnswer r) ≡ r
+    go (kind.Got v) = refl
+    go (kind.Refused n) = refl
+
+pub block-header-one : {r r′ : BlockHeaderRead} → Rattle.blocks.specs.BlockHeader.headerAnswer r ≡ Rattle.blocks.specs.BlockHeader.headerAnswer r′ → r ≡ r′
+block-header-one = one Rattle.blocks.specs.BlockHeader.headerAnswer (back block-header.Got block-header.Refused) (λ r. go r)
+  where
+    go : (r : BlockHeaderRead) → back block-header.Got block-header.Refused (Rattle.blocks.specs.BlockHeader.headerAnswer r) ≡ r
+    go (block-header.Got v) = refl
+    go (block-header.Refused n) = refl
+
+pub block-info-one : {r r′ : BlockInfoRead} → Rattle.blocks.specs.Record.infoAnswer r ≡ Rattle.blocks.specs.Record.infoAnswer r′ → r ≡ r′
+block-info-one = one Rattle.blocks.specs.Record.infoAnswer (back block-info.Got block-info.Refused) (λ r. go r)
+  where
+    go : (r : BlockInfoRead) → back block-info.Got block-info.Refused (Rattle.blocks.specs.Record.infoAnswer r) ≡ r
+    go (block-info.Got v) = refl
+    go (block-info.Refused n) = refl
+
+pub geometry-one : {r r′ : GeometryRead} → Rattle.crossing.specs.Crossing.geometryAnswer r ≡ Rattle.crossing.specs.Crossing.geometryAnswer r′ → r ≡ r′
+geometry-one = one Rattle.crossing.specs.Crossing.geometryAnswer (back geometry.Got geometry.Refused) (λ r. go r)
+  where
+    go : (r : GeometryRead) → back geometry.Got geometry.Refused (Rattle.crossing.specs.Crossing.geometryAnswer r) ≡ r
+    go (geometry.Got v) = refl
+    go (geometry.Refused n) = refl
+
+pub target-one : {r r′ : TargetRead} → Rattle.crossing.specs.Values.targetAnswer r ≡ Rattle.crossing.specs.Values.targetAnswer r′ → r ≡ r′
+target-one = one Rattle.crossing.specs.Values.targetAnswer (back target.Got target.Refused) (λ r. go r)
+  where
+    go : (r : TargetRead) → back target.Got target.Refused (Rattle.crossing.specs.Values.targetAnswer r) ≡ r
+    go (target.Got v) = refl
+    go (target.Refused n) = refl
+
+pub block-type-one : {r r′ : BlockTypeRead} → Rattle.crossing.specs.Records.blockTypeAnswer r ≡ Rattle.crossing.specs.Records.blockTypeAnswer r′ → r ≡ r′
+block-type-one = one Rattle.crossing.specs.Records.blockTypeAnswer (back block-type.Got block-type.Refused) (λ r. go r)
+  where
+    go : (r : BlockTypeRead) → back block-type.Got block-type.Refused (Rattle.crossing.specs.Records.blockTypeAnswer r) ≡ r
+    go (block-type.Got v) = refl
+    go (block-type.Refused n) = refl
+
+-- ---- more than one way to be done
+
+abbrev info-back : Answer Info → InfoRead
+info-back (done (found h)) = info.Found h
+info-back (done none) = info.Free
+info-back (refused n) = info.Refused n
+
+pub info-one : {r r′ : InfoRead} → infoAnswer r ≡ infoAnswer r′ → r ≡ r′
+info-one = one infoAnswer info-back (λ r. go r)
+  where
+    go : (r : InfoRead) → info-back (infoAnswer r) ≡ r
+    go (info.Found h) = refl
+    go info.Free = refl
+    go (info.Refused n) = refl
+
+abbrev emptiness-back : Answer Bool → Emptiness
+emptiness-back (done true) = emptiness.Empty
+emptiness-back (done false) = emptiness.Written
+emptiness-back (refused n) = emptiness.Refused n
+
+pub emptiness-one : {r r′ : Emptiness} → emptinessAnswer r ≡ emptinessAnswer r′ → r ≡ r′
+emptiness-one = one emptinessAnswer emptiness-back (λ r. go r)
+  where
+    go : (r : Emptiness) → emptiness-back (emptinessAnswer r) ≡ r
+    go emptiness.Empty = refl
+    go emptiness.Written = refl
+    go (emptiness.Refused n) = refl
+
+-- ---- an answer with its fuse
+
+abbrev wrote-by : Answer ℕ → Fuse → Wrote
+wrote-by (done n) f = wrote.Done n f
+wrote-by (refused k) f = wrote.Refused k f
+
+abbrev wrote-back : End ℕ → Wrote
+wrote-back e = wrote-by (e .answer) (e .fuse)
+
+pub wrote-one : (r r′ : Wrote) (i i′ : List ℕ) → wroteEnd r i ≡ wroteEnd r′ i′ → (r ≡ r′) × (i ≡ i′)
+wrote-one r r′ i i′ e = (sym (go r i) ∙ ap wrote-back e ∙ go r′ i′, sym (state r i) ∙ ap (λ (z : End ℕ). z .state) e ∙ state r′ i′)
+  where
+    go : (x : Wrote) (j : List ℕ) → wrote-back (wroteEnd x j) ≡ x
+    go (wrote.Done n f) j = refl
+    go (wrote.Refused k f) j = refl
+
+    state : (x : Wrote) (j : List ℕ) → wroteEnd x j .state ≡ j
+    state (wrote.Done n f) j = refl
+    state (wrote.Refused k f) j = refl
+
+-- ---- an answer, and what a lent buffer holds
+
+pub answered-one : (r r′ : Answered) (e : Answer (Unit {0})) → answered r tt ≡ e → answered r′ tt ≡ e → r ≡ r′
+answered-one r r′ e p q = one-answer r r′ tt tt e p q .answer
+
+pub heard-one : {A : Type 0} (r r′ : Answered) (a a′ b : A) (e : Answer A) → answered r a ≡ e → answered r′ a′ ≡ e → a ≡ unlessDone r b a → a′ ≡ unlessDone r′ b a′
+    → (r ≡ r′) × (a ≡ a′)
+heard-one r r′ a a′ b e p q h k = let s = one-answer r r′ a a′ e p q in (s .answer, one-buffer r r′ a a′ b s h k)
+
+-- ---- an answer with its fuse, and the state
+
+pub stored-one : {S : Type 0} (r r′ : Stored) (i i′ : S) (e : EndIn S (Unit {0})) → ended r i ≡ e → ended r′ i′ ≡ e → (r ≡ r′) × (i ≡ i′)
+stored-one r r′ i i′ e p q = let s = one-outcome r r′ tt tt i i′ e p q in (s .answer, s .state)
+
+writings : (r r′ : Writing) → r .answer ≡ r′ .answer → r .writer ≡ r′ .writer → r ≡ r′
+writings r r′ a w = ap (λ (z : Stored). record { answer = z; writer = r .writer }) a ∙ ap (λ (z : ObjectWriter). record { answer = r′ .answer; writer = z }) w
+
+-- with a value beside it: the second clause says which one a refusal gives back
+module _ {S : Type 0} where
+  pub headed-one : (r r′ : Headed) (h : ObjectHeader) (i i′ : S) (e : EndIn S ObjectHeader)
+      → endedBy (r .answer) (r .header) i ≡ e → endedBy (r′ .answer) (r′ .header) i′ ≡ e
+      → r .header ≡ unlessStored (r .answer) h (r .header) → r′ .header ≡ unlessStored (r′ .answer) h (r′ .header) → (r ≡ r′) × (i ≡ i′)
+  headed-one r r′ h i i′ e p q k l =
+      let s = one-outcome (r .answer) (r′ .answer) (r .header) (r′ .header) i i′ e p q in
+      let a : r .answer ≡ r′ .answer = s .answer in
+      let v : r .header ≡ r′ .header = one-value (r .answer) (r′ .answer) (r .header) (r′ .header) h i i′ s k l in
+      (ap (λ (z : Stored). record { answer = z; header = r .header }) a ∙ ap (λ (z : ObjectHeader). record { answer = r′ .answer; header = z }) v, s .state)
+
+  pub allocated-one : (r r′ : Writing) (w : ObjectWriter) (i i′ : S) (e : EndIn S ObjectWriter)
+      → endedBy (r .answer) (r .writer) i ≡ e → endedBy (r′ .answer) (r′ .writer) i′ ≡ e
+      → r .writer ≡ unlessStored (r .answer) w (r .writer) → r′ .writer ≡ unlessStored (r′ .answer) w (r′ .writer) → (r ≡ r′) × (i ≡ i′)
+  allocated-one r r′ w i i′ e p q k l =
+      let s = one-outcome (r .answer) (r′ .answer) (r .writer) (r′ .writer) i i′ e p q in
+      (writings r r′ (s .answer) (one-value (r .answer) (r′ .answer) (r .writer) (r′ .writer) w i i′ s k l), s .state)
+
+  pub writing-one : (r r′ : Writing) (w : ObjectWriter) (i i′ : S) (e : EndIn S ObjectWriter)
+      → endedBy (r .answer) (r .writer) i ≡ e → endedBy (r′ .answer) (r′ .writer) i′ ≡ e
+      → r .writer ≡ keptOf (r .answer) w (r .writer) → r′ .writer ≡ keptOf (r′ .answer) w (r′ .writer) → (r ≡ r′) × (i ≡ i′)
+  writing-one r r′ w i i′ e p q k l =
+      let s = one-outcome (r .answer) (r′ .answer) (r .writer) (r′ .writer) i i′ e p q in
+      (writings r r′ (s .answer) (go s (r .answer) refl k), s .state)
+    where
+      go : Same (r .answer) (r′ .answer) (r .writer) (r′ .writer) i i′ → (x : Stored) → r .answer ≡ x → r .writer ≡ keptOf x w (r .writer) → r .writer ≡ r′ .writer
+      go s (stored.Done f) d h = s .value f d
+      go s (stored.Refused n f) d h = h ∙ sym (l ∙ ap (λ (z : Stored). keptOf z w (r′ .writer)) (sym (s .answer) ∙ d))

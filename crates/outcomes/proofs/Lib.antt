@@ -1,0 +1,13 @@
+pub mod One
+pub mod Answers
+pub mod Medium
+pub mod Objects
+pub mod Writer
+pub mod Blocks
+pub mod Collector
+pub mod Powercut
+pub mod Crossing
+pub mod Cface
+pub mod Record
+pub mod Lines
+pub mod Cuts

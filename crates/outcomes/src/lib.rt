@@ -1,0 +1,1 @@
+// That each public function has one outcome. The code is in the crates below.
