@@ -3,6 +3,7 @@
 use crate::{
     case::Case,
     model, oracle,
+    op::Layer,
     outcome::{difference, Outcome},
     rattle,
 };
@@ -40,10 +41,11 @@ pub fn judge(case: &Case) -> Judged {
 }
 
 /// Plants a fault in the library's outcome, to show that the harness finds, shrinks and reports one: a stored byte of
-/// a write that is longer than five bytes comes out wrong.
+/// a write that is longer than five bytes, or of a block's or the collector's function, comes out wrong.
 pub fn plant(case: &Case, judged: &mut Judged) {
     let mut wrong = judged.model.clone();
-    if case.op.stores() && wrong.done() && case.bytes.len() > 5 {
+    let upper = matches!(case.op.signature().layer, Layer::Blocks | Layer::Collector);
+    if case.op.stores() && wrong.done() && (upper || case.bytes.len() > 5) {
         if let Some(at) = (0..wrong.image.len()).find(|&i| wrong.image[i] != case.image[i]) {
             wrong.image[at] ^= 1;
         }

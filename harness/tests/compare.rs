@@ -61,17 +61,25 @@ fn harness(words: &[&str]) -> Output {
     command.args(words).output().unwrap()
 }
 
-#[test]
-fn a_planted_fault_is_reported() {
-    let run = harness(&["compare", "--layer", "medium", "--cases", "5000", "--plant"]);
+/// The smallest case that a run with a planted fault reports; without the fault all sides agree on it.
+fn reported(layer: &str) -> Case {
+    let run = harness(&["compare", "--layer", layer, "--cases", "5000", "--plant"]);
     assert!(!run.status.success());
     let said = String::from_utf8(run.stderr).unwrap();
     assert!(said.contains("DIFFERS: the library and the"), "{said}");
     let line = said.split_once("harness replay '").and_then(|(_, rest)| rest.split_once('\'')).unwrap().0;
-    let case = Case::parse(line).unwrap();
+    assert!(harness(&["replay", line]).status.success(), "without the planted fault all agree");
+    Case::parse(line).unwrap()
+}
+
+#[test]
+fn a_planted_fault_is_reported() {
+    let case = reported("medium");
     assert_eq!((case.op, case.bytes.len()), (Op::Write, 6));
-    let replay = harness(&["replay", line]);
-    assert!(replay.status.success(), "without the planted fault all agree");
+    for layer in ["objects", "blocks", "collector"] {
+        let case = reported(layer);
+        assert!(case.op.stores() && case.geometry.count <= 2, "{}", case.line());
+    }
 }
 
 #[test]
