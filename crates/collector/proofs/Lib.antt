@@ -3,5 +3,11 @@ pub mod Tables
 pub mod Repairs
 pub mod Erasing
 pub mod Sweeps
-pub mod Finished
+pub mod Events
+pub mod Agreeing
+pub mod Stores
 pub mod Untouched
+pub mod Finished
+pub mod Marked
+pub mod Whole
+pub mod Collections

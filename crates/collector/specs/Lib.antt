@@ -1,3 +1,4 @@
 pub mod Table
 pub mod Passes
+pub mod Finished
 pub mod Rows
