@@ -154,6 +154,19 @@ swallowed =
     before : List ℕ
     before = holding 0x44 (0x8E ∷ 0xFF ∷ 0xFF ∷ 0x8E ∷ 0xF0 ∷ 0 ∷ [])
 
-pub rows : T (thirteen && impossible && last && raised && broken && cuts && rest && swallowed)
+-- ---- a finished object that runs past the end of its block is kept as far as the block goes: the third pass formats the next one, and
+-- with it the object's last byte, the type of block 1
+
+abbrev overrun : Bool
+overrun =
+    same (scanned (scanBlock (two Bit) 0 (long ++ holding 0x44 []))) (3 ∷ 0 ∷ 68 ∷ 1 ∷ [])
+    && row (eraseFullFinishedBlocks (two Bit)) (long ++ holding 0x44 []) (record4 3 0 68 1 ++ record4 3 0 8 1) Absent 0 Absent
+    (long ++ filled (0xBA ∷ 0x01 ∷ 0x44 ∷ 0xFF ∷ 1 ∷ 0 ∷ 0 ∷ 0 ∷ []))
+    (record4 3 0 68 1 ++ record4 4 1 8 1)
+  where
+    long : List ℕ
+    long = holding 0x44 (0x8E ∷ 0xF0 ∷ 57 ∷ [])
+
+pub rows : T (thirteen && impossible && last && raised && broken && cuts && rest && swallowed && overrun)
 unfolding geometryOk admit _>>=_ ask test putting run readable writable erasable readAt write erase typeOf markOf pairOf marksOf stateIn stateAt sizedAt headerAt payloadSizeOf payloadOf marking setState staying updateState sizableOf setPayloadSize infoAt totalOf nextOf listFrom listing headerBytes writeHeader padded marked blank kindOfType namedKind kindIn blockHeaderAt dataEmptyAt again planKnown planOf planAt labelling format.renewing formatBlock kindOf infoOf scanUnknown scanBlock onImage recordAt storing allowing possibleFrom collectable repairBy repairing repaired visitOne deleting deleteInvalidObjectsInBlock wornOut formatting renewing erasing eraseInvalidFinishedBlock eraseFullFinishedBlock blockStep sweep pass collect
 rows = tt
