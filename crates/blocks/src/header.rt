@@ -5,9 +5,11 @@ use medium::fuse::Stored;
 use medium::geometry::Geometry;
 use medium::granularity::Granularity;
 ghost use mathlib.Core.Path.{_≡_};
+ghost use mathlib.Core.List.{[], _∷_, _++_};
 ghost use Prim.Native.Nat.{_≤_};
 ghost use lib.ListN.{length};
 ghost use Rattle.medium.specs.Operation.{run, ended};
+ghost use Rattle.objects.specs.Numbers.{bytes};
 ghost use Rattle.blocks.specs.BlockHeader.{typeByte, typeNumber, kindNumber, isEmptyKind, isKnown, isUnknown, isEmpty, layoutByte, typeIf, wideBytes, writeHeader, padded, unnamed, marked, blank, kindOfType, namedKind, kindIn, eraseCountIn, headerAnswer, headerNumber, blockHeaderAt};
 ghost use Rattle.blocks.specs.Record.{kindOf, kindAnswer, kindReadNumber};
 
@@ -253,6 +255,32 @@ fn type_if(k: Granularity, at: usize, t: BlockType) -> u8
     if k.type_at() == at { t.byte() } else { 0xFF }
 }
 
+// The bytes of a header around its erase count, which stands low byte first: four before it, and the far type behind it.
+fn around(first: u8, second: u8, layout: u8, near: u8, n: u32, far: u8) -> [u8; 12]
+    ensures { λ r. ⌜ r ≡ (first ∷ second ∷ layout ∷ near ∷ []) ++ (bytes 4 n ++ (far ∷ 0xFF ∷ 0xFF ∷ 0xFF ∷ [])) ⌝ }
+{
+    let two = n / 256;
+    let three = two / 256;
+    let a = (n % 256) as u8;
+    let b = (two % 256) as u8;
+    let c = (three % 256) as u8;
+    let d = (three / 256 % 256) as u8;
+    [
+        first,
+        second,
+        layout,
+        near,
+        a,
+        b,
+        c,
+        d,
+        far,
+        0xFF,
+        0xFF,
+        0xFF,
+    ]
+}
+
 pub struct BlockHeader {
     pub kind: BlockHeaderKind,
     pub erase_count: u32,
@@ -303,47 +331,15 @@ impl BlockHeader {
         ensures { λ r. ⌜ r ≡ wideBytes g (self .kind) (self .«erase_count») ⌝ }
     {
         let n = self.erase_count;
-        let second = n / 256;
-        let third = second / 256;
-        let a = (n % 256) as u8;
-        let b = (second % 256) as u8;
-        let c = (third % 256) as u8;
-        let d = (third / 256 % 256) as u8;
         let kind = self.kind;
         match kind {
-            BlockHeaderKind::Empty => [0xFF, 0xFF, 0xFF, 0xFF, a, b, c, d, 0xFF, 0xFF, 0xFF, 0xFF],
-            BlockHeaderKind::Unknown => [
-                0xFF,
-                0xFF,
-                0xFF,
-                0xFF,
-                a,
-                b,
-                c,
-                d,
-                0xFF,
-                0xFF,
-                0xFF,
-                0xFF,
-            ],
+            BlockHeaderKind::Empty => around(0xFF, 0xFF, 0xFF, 0xFF, n, 0xFF),
+            BlockHeaderKind::Unknown => around(0xFF, 0xFF, 0xFF, 0xFF, n, 0xFF),
             BlockHeaderKind::Known(t) => {
                 let k = g.granularity;
                 let near = type_if(k, 3, t);
                 let far = type_if(k, 8, t);
-                [
-                    0xBA,
-                    0x01,
-                    layout(g),
-                    near,
-                    a,
-                    b,
-                    c,
-                    d,
-                    far,
-                    0xFF,
-                    0xFF,
-                    0xFF,
-                ]
+                around(0xBA, 0x01, layout(g), near, n, far)
             }
         }
     }
