@@ -7,8 +7,8 @@
  * 6 comes first (also for a granularity byte other than 0, 1, 4), then 7 (only where there is an image), then 4 for numbers
  * that no value has, then what the steps of the operation give, in their order.
  *
- * A refused call leaves every out value as it was and every in/out array as it went in; image and units have exactly what was stored
- * before the refusal. No two pointers of one call may overlap.
+ * A refused call leaves every out value as it was and every in/out array as it went in, but for a writer, which is spent after 8; image
+ * and units have exactly what was stored before the refusal. No two pointers of one call may overlap.
  */
 #ifndef STUMPCHOIR_H
 #define STUMPCHOIR_H
@@ -53,10 +53,15 @@ uint8_t stumpchoir_erase(STUMPCHOIR_GEOMETRY, STUMPCHOIR_STORE, uint32_t block);
  * header     type (8F FileMetadata, 8E FileData, 8D FileName, FF where Free), state (0 Free, 1 Allocated, 2 Finalized, 3 Deleted),
  *            size as read or set, block, offset
  * reader     header, cursor
+ * writer     header, cursor (the payload bytes stored), held (those that wait for their word), the four bytes of the tail, spent (0 or 1)
  * metadata   header, path hash, name block, name offset, cursor
  * iterator   block, offset
  *
- * Impossible (4): a type and a state that do not go together, a state above 3, a cursor above 65536.
+ * Impossible (4): a type and a state that do not go together, a state above 3, a cursor above 65536; of a writer also a tail as long as
+ * the width of a unit, a number of the tail above 255, spent above 1.
+ *
+ * After 8 the last number of a writer that went in is 1, and nothing else of it has changed: it is spent, and each later write, finalize
+ * and delete of it gives 4.
  */
 
 /* The bytes of a location: the first c + s of the six are set, and *len is c + s. */
@@ -73,6 +78,27 @@ uint8_t stumpchoir_update_state(STUMPCHOIR_GEOMETRY, STUMPCHOIR_STORE, uint32_t 
 
 /* Stores the low s bytes of a size that is not set yet; one that is set is 4. */
 uint8_t stumpchoir_set_payload_size(STUMPCHOIR_GEOMETRY, STUMPCHOIR_STORE, uint32_t header[5], uint32_t payload_size);
+
+/* Stores the type (8F, 8E or 8D, else 4) of a new object, over Free or over Allocated of the same type: its writer. */
+uint8_t stumpchoir_writer_allocate(STUMPCHOIR_GEOMETRY, STUMPCHOIR_STORE, uint32_t block, uint32_t offset, uint8_t type, uint32_t writer[12]);
+
+/* The payload bytes that still fit; 9 where the writer stands past the end of its block. */
+uint8_t stumpchoir_writer_space(STUMPCHOIR_GEOMETRY, const uint32_t writer[12], uint32_t *space);
+
+/* The payload bytes taken so far, stored or held. */
+uint8_t stumpchoir_writer_payload_size(STUMPCHOIR_GEOMETRY, const uint32_t writer[12], uint32_t *payload_size);
+
+/* Those and the header. */
+uint8_t stumpchoir_writer_total_size(STUMPCHOIR_GEOMETRY, const uint32_t writer[12], uint32_t *total_size);
+
+/* Takes payload bytes: whole words are stored, less than a word is held. 5 where they are more than the space. */
+uint8_t stumpchoir_writer_write(STUMPCHOIR_GEOMETRY, STUMPCHOIR_STORE, uint32_t writer[12], const uint8_t *src, size_t src_len);
+
+/* Ends the object: what is held, the size, and the mark of a Finalized object. */
+uint8_t stumpchoir_writer_finalize(STUMPCHOIR_GEOMETRY, STUMPCHOIR_STORE, uint32_t writer[12]);
+
+/* Deletes the object: one that is not Finalized gets its size first; of one that is Free or Deleted nothing is stored. */
+uint8_t stumpchoir_writer_delete(STUMPCHOIR_GEOMETRY, STUMPCHOIR_STORE, uint32_t writer[12]);
 
 /* A reader of the Finalized object at a place, or of any object that is there. */
 uint8_t stumpchoir_reader_new(STUMPCHOIR_GEOMETRY, STUMPCHOIR_IMAGE, uint32_t block, uint32_t offset, bool allow_non_finalized, uint32_t reader[6]);
@@ -118,6 +144,16 @@ uint8_t stumpchoir_iterator_new(STUMPCHOIR_GEOMETRY, uint32_t block, uint32_t it
 
 /* The object at the iterator: *found is 1 with its header and the iterator behind it, or 0 where listing stops (then both stay). */
 uint8_t stumpchoir_iterator_next(STUMPCHOIR_GEOMETRY, STUMPCHOIR_IMAGE, uint32_t iterator[2], uint32_t *found, uint32_t header[5]);
+
+/* An object of a type (8F, 8E or 8D, else 4), written whole: *total_size is its header and payload together. The type is stored first, and
+ * 5, where the payload does not fit, leaves it there. */
+uint8_t stumpchoir_write_to(STUMPCHOIR_GEOMETRY, STUMPCHOIR_STORE, uint32_t block, uint32_t offset, uint8_t type, const uint8_t *src, size_t src_len, uint32_t *total_size);
+
+/* The Finalized object that a header names, anew at another place: its header there. The type is the one that the header says. */
+uint8_t stumpchoir_copy_object(STUMPCHOIR_GEOMETRY, STUMPCHOIR_STORE, const uint32_t header[5], uint32_t block, uint32_t offset, uint32_t copy[5]);
+
+/* The same, and then the object is deleted where it was. */
+uint8_t stumpchoir_move_object(STUMPCHOIR_GEOMETRY, STUMPCHOIR_STORE, const uint32_t header[5], uint32_t block, uint32_t offset, uint32_t copy[5]);
 
 /* ---- blocks
  *

@@ -1,3 +1,4 @@
 pub mod Crossing
 pub mod Values
 pub mod Records
+pub mod Kinds

@@ -2,5 +2,6 @@
 //
 // Always true: numbers that no value has give 4, and a value that comes in as numbers goes out as the same ones.
 pub mod call;
+pub mod kinds;
 pub mod records;
 pub mod values;

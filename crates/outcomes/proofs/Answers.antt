@@ -46,6 +46,8 @@ use Rattle.crossing.specs.declared.values.TargetRead.{TargetRead}
 use Rattle.crossing.specs.declared.values.TargetRead.the-variants as target
 use Rattle.crossing.specs.declared.records.BlockTypeRead.{BlockTypeRead}
 use Rattle.crossing.specs.declared.records.BlockTypeRead.the-variants as block-type
+use Rattle.crossing.specs.declared.kinds.ObjectTypeRead.{ObjectTypeRead}
+use Rattle.crossing.specs.declared.kinds.ObjectTypeRead.the-variants as object-type
 use Rattle.outcomes.proofs.One.{one}
 
 -- ---- a value or a refusal
@@ -137,6 +139,13 @@ block-type-one = one Rattle.crossing.specs.Records.blockTypeAnswer (back block-
     go : (r : BlockTypeRead) → back block-type.Got block-type.Refused (Rattle.crossing.specs.Records.blockTypeAnswer r) ≡ r
     go (block-type.Got v) = refl
     go (block-type.Refused n) = refl
+
+pub object-type-one : {r r′ : ObjectTypeRead} → Rattle.crossing.specs.Kinds.objectTypeAnswer r ≡ Rattle.crossing.specs.Kinds.objectTypeAnswer r′ → r ≡ r′
+object-type-one = one Rattle.crossing.specs.Kinds.objectTypeAnswer (back object-type.Got object-type.Refused) (λ r. go r)
+  where
+    go : (r : ObjectTypeRead) → back object-type.Got object-type.Refused (Rattle.crossing.specs.Kinds.objectTypeAnswer r) ≡ r
+    go (object-type.Got v) = refl
+    go (object-type.Refused n) = refl
 
 -- ---- more than one way to be done
 

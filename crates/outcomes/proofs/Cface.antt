@@ -35,6 +35,9 @@ use Rattle.cface.proofs.metadata_calls.stumpchoir_info_read_metadata.Reads as m
 use Rattle.cface.proofs.metadata_calls.stumpchoir_location_read_metadata.Reads as metadata-calls-stumpchoir-location-read-metadata
 use Rattle.cface.proofs.metadata_calls.stumpchoir_metadata_reset.Reads as metadata-calls-stumpchoir-metadata-reset
 use Rattle.cface.proofs.metadata_calls.stumpchoir_metadata_next_object_location.Reads as metadata-calls-stumpchoir-metadata-next-object-location
+use Rattle.cface.proofs.moving_calls.stumpchoir_write_to.Reads as moving-calls-stumpchoir-write-to
+use Rattle.cface.proofs.moving_calls.stumpchoir_copy_object.Reads as moving-calls-stumpchoir-copy-object
+use Rattle.cface.proofs.moving_calls.stumpchoir_move_object.Reads as moving-calls-stumpchoir-move-object
 use Rattle.cface.proofs.reader_calls.stumpchoir_reader_new.Reads as reader-calls-stumpchoir-reader-new
 use Rattle.cface.proofs.reader_calls.stumpchoir_reader_len.Reads as reader-calls-stumpchoir-reader-len
 use Rattle.cface.proofs.reader_calls.stumpchoir_reader_remaining.Reads as reader-calls-stumpchoir-reader-remaining
@@ -44,6 +47,13 @@ use Rattle.cface.proofs.record_calls.stumpchoir_record_free_space.Reads as reco
 use Rattle.cface.proofs.record_calls.stumpchoir_record_is_empty.Reads as record-calls-stumpchoir-record-is-empty
 use Rattle.cface.proofs.record_calls.stumpchoir_record_add_used_bytes.Reads as record-calls-stumpchoir-record-add-used-bytes
 use Rattle.cface.proofs.record_calls.stumpchoir_record_update_stats_after_erase.Reads as record-calls-stumpchoir-record-update-stats-after-erase
+use Rattle.cface.proofs.writer_calls.stumpchoir_writer_allocate.Reads as writer-calls-stumpchoir-writer-allocate
+use Rattle.cface.proofs.writer_calls.stumpchoir_writer_space.Reads as writer-calls-stumpchoir-writer-space
+use Rattle.cface.proofs.writer_calls.stumpchoir_writer_payload_size.Reads as writer-calls-stumpchoir-writer-payload-size
+use Rattle.cface.proofs.writer_calls.stumpchoir_writer_total_size.Reads as writer-calls-stumpchoir-writer-total-size
+use Rattle.cface.proofs.writer_calls.stumpchoir_writer_write.Reads as writer-calls-stumpchoir-writer-write
+use Rattle.cface.proofs.writer_calls.stumpchoir_writer_finalize.Reads as writer-calls-stumpchoir-writer-finalize
+use Rattle.cface.proofs.writer_calls.stumpchoir_writer_delete.Reads as writer-calls-stumpchoir-writer-delete
 
 pub block-calls-stumpchoir-block-header-read-one : One block-calls-stumpchoir-block-header-read.Post (λ _ r e r′ e′. (r ≡ r′) × (now (e .1 .1 .1 .1 .1 .1 .1 .0) ≡ now (e′ .1 .1 .1 .1 .1 .1 .1 .0)))
 block-calls-stumpchoir-block-header-read-one _ _ r r′ e e′ p q = (p .0 ∙ sym (q .0), p .1 ∙ sym (q .1))
@@ -141,6 +151,15 @@ metadata-calls-stumpchoir-metadata-reset-one _ _ r r′ e e′ p q = (p .0 ∙ s
 pub metadata-calls-stumpchoir-metadata-next-object-location-one : One metadata-calls-stumpchoir-metadata-next-object-location.Post (λ _ r e r′ e′. (r ≡ r′) × (now (e .1 .1 .1 .1 .1 .1 .0) ≡ now (e′ .1 .1 .1 .1 .1 .1 .0)) × (now (e .1 .1 .1 .1 .1 .1 .1 .0) ≡ now (e′ .1 .1 .1 .1 .1 .1 .1 .0)) × (now (e .1 .1 .1 .1 .1 .1 .1 .1 .0) ≡ now (e′ .1 .1 .1 .1 .1 .1 .1 .1 .0)))
 metadata-calls-stumpchoir-metadata-next-object-location-one _ _ r r′ e e′ p q = (p .0 ∙ sym (q .0), p .1 .0 ∙ sym (q .1 .0), p .1 .1 .0 ∙ sym (q .1 .1 .0), p .1 .1 .1 ∙ sym (q .1 .1 .1))
 
+pub moving-calls-stumpchoir-write-to-one : One moving-calls-stumpchoir-write-to.Post (λ _ r e r′ e′. (r ≡ r′) × (now (e .1 .1 .1 .1 .1 .0) ≡ now (e′ .1 .1 .1 .1 .1 .0)) × (now (e .1 .1 .1 .1 .1 .1 .1 .0) ≡ now (e′ .1 .1 .1 .1 .1 .1 .1 .0)) × (now (e .1 .1 .1 .1 .1 .1 .1 .1 .1 .1 .1 .1 .0) ≡ now (e′ .1 .1 .1 .1 .1 .1 .1 .1 .1 .1 .1 .1 .0)))
+moving-calls-stumpchoir-write-to-one _ _ r r′ e e′ p q = let s = p ∙ sym q in (ap (λ (z : CrossingWith _ _). z .number) s, ap (λ (z : CrossingWith _ _). z .state) s, ap (λ (z : CrossingWith _ _). z .units) s, ap (λ (z : CrossingWith _ _). z .out) s)
+
+pub moving-calls-stumpchoir-copy-object-one : One moving-calls-stumpchoir-copy-object.Post (λ _ r e r′ e′. (r ≡ r′) × (now (e .1 .1 .1 .1 .1 .0) ≡ now (e′ .1 .1 .1 .1 .1 .0)) × (now (e .1 .1 .1 .1 .1 .1 .1 .0) ≡ now (e′ .1 .1 .1 .1 .1 .1 .1 .0)) × (now (e .1 .1 .1 .1 .1 .1 .1 .1 .1 .1 .1 .0) ≡ now (e′ .1 .1 .1 .1 .1 .1 .1 .1 .1 .1 .1 .0)))
+moving-calls-stumpchoir-copy-object-one _ _ r r′ e e′ p q = let s = p ∙ sym q in (ap (λ (z : CrossingWith _ _). z .number) s, ap (λ (z : CrossingWith _ _). z .state) s, ap (λ (z : CrossingWith _ _). z .units) s, ap (λ (z : CrossingWith _ _). z .out) s)
+
+pub moving-calls-stumpchoir-move-object-one : One moving-calls-stumpchoir-move-object.Post (λ _ r e r′ e′. (r ≡ r′) × (now (e .1 .1 .1 .1 .1 .0) ≡ now (e′ .1 .1 .1 .1 .1 .0)) × (now (e .1 .1 .1 .1 .1 .1 .1 .0) ≡ now (e′ .1 .1 .1 .1 .1 .1 .1 .0)) × (now (e .1 .1 .1 .1 .1 .1 .1 .1 .1 .1 .1 .0) ≡ now (e′ .1 .1 .1 .1 .1 .1 .1 .1 .1 .1 .1 .0)))
+moving-calls-stumpchoir-move-object-one _ _ r r′ e e′ p q = let s = p ∙ sym q in (ap (λ (z : CrossingWith _ _). z .number) s, ap (λ (z : CrossingWith _ _). z .state) s, ap (λ (z : CrossingWith _ _). z .units) s, ap (λ (z : CrossingWith _ _). z .out) s)
+
 pub reader-calls-stumpchoir-reader-new-one : One reader-calls-stumpchoir-reader-new.Post (λ _ r e r′ e′. (r ≡ r′) × (now (e .1 .1 .1 .1 .1 .1 .1 .1 .1 .0) ≡ now (e′ .1 .1 .1 .1 .1 .1 .1 .1 .1 .0)))
 reader-calls-stumpchoir-reader-new-one _ _ r r′ e e′ p q = (p .0 ∙ sym (q .0), p .1 ∙ sym (q .1))
 
@@ -167,3 +186,24 @@ record-calls-stumpchoir-record-add-used-bytes-one _ _ r r′ e e′ p q = (p .0 
 
 pub record-calls-stumpchoir-record-update-stats-after-erase-one : One record-calls-stumpchoir-record-update-stats-after-erase.Post (λ _ r e r′ e′. (r ≡ r′) × (now (e .1 .1 .1 .1 .1 .0) ≡ now (e′ .1 .1 .1 .1 .1 .0)))
 record-calls-stumpchoir-record-update-stats-after-erase-one _ _ r r′ e e′ p q = (p .0 ∙ sym (q .0), p .1 ∙ sym (q .1))
+
+pub writer-calls-stumpchoir-writer-allocate-one : One writer-calls-stumpchoir-writer-allocate.Post (λ _ r e r′ e′. (r ≡ r′) × (now (e .1 .1 .1 .1 .1 .0) ≡ now (e′ .1 .1 .1 .1 .1 .0)) × (now (e .1 .1 .1 .1 .1 .1 .1 .0) ≡ now (e′ .1 .1 .1 .1 .1 .1 .1 .0)) × (now (e .1 .1 .1 .1 .1 .1 .1 .1 .1 .1 .1 .0) ≡ now (e′ .1 .1 .1 .1 .1 .1 .1 .1 .1 .1 .1 .0)))
+writer-calls-stumpchoir-writer-allocate-one _ _ r r′ e e′ p q = let s = p ∙ sym q in (ap (λ (z : CrossingWith _ _). z .number) s, ap (λ (z : CrossingWith _ _). z .state) s, ap (λ (z : CrossingWith _ _). z .units) s, ap (λ (z : CrossingWith _ _). z .out) s)
+
+pub writer-calls-stumpchoir-writer-space-one : One writer-calls-stumpchoir-writer-space.Post (λ _ r e r′ e′. (r ≡ r′) × (now (e .1 .1 .1 .1 .1 .1 .0) ≡ now (e′ .1 .1 .1 .1 .1 .1 .0)))
+writer-calls-stumpchoir-writer-space-one _ _ r r′ e e′ p q = (p .0 ∙ sym (q .0), p .1 ∙ sym (q .1))
+
+pub writer-calls-stumpchoir-writer-payload-size-one : One writer-calls-stumpchoir-writer-payload-size.Post (λ _ r e r′ e′. (r ≡ r′) × (now (e .1 .1 .1 .1 .1 .1 .0) ≡ now (e′ .1 .1 .1 .1 .1 .1 .0)))
+writer-calls-stumpchoir-writer-payload-size-one _ _ r r′ e e′ p q = (p .0 ∙ sym (q .0), p .1 ∙ sym (q .1))
+
+pub writer-calls-stumpchoir-writer-total-size-one : One writer-calls-stumpchoir-writer-total-size.Post (λ _ r e r′ e′. (r ≡ r′) × (now (e .1 .1 .1 .1 .1 .1 .0) ≡ now (e′ .1 .1 .1 .1 .1 .1 .0)))
+writer-calls-stumpchoir-writer-total-size-one _ _ r r′ e e′ p q = (p .0 ∙ sym (q .0), p .1 ∙ sym (q .1))
+
+pub writer-calls-stumpchoir-writer-write-one : One writer-calls-stumpchoir-writer-write.Post (λ _ r e r′ e′. (r ≡ r′) × (now (e .1 .1 .1 .1 .1 .0) ≡ now (e′ .1 .1 .1 .1 .1 .0)) × (now (e .1 .1 .1 .1 .1 .1 .1 .0) ≡ now (e′ .1 .1 .1 .1 .1 .1 .1 .0)) × (now (e .1 .1 .1 .1 .1 .1 .1 .1 .0) ≡ now (e′ .1 .1 .1 .1 .1 .1 .1 .1 .0)))
+writer-calls-stumpchoir-writer-write-one _ _ r r′ e e′ p q = let s = p ∙ sym q in (ap (λ (z : CrossingWith _ _). z .number) s, ap (λ (z : CrossingWith _ _). z .state) s, ap (λ (z : CrossingWith _ _). z .units) s, ap (λ (z : CrossingWith _ _). z .out) s)
+
+pub writer-calls-stumpchoir-writer-finalize-one : One writer-calls-stumpchoir-writer-finalize.Post (λ _ r e r′ e′. (r ≡ r′) × (now (e .1 .1 .1 .1 .1 .0) ≡ now (e′ .1 .1 .1 .1 .1 .0)) × (now (e .1 .1 .1 .1 .1 .1 .1 .0) ≡ now (e′ .1 .1 .1 .1 .1 .1 .1 .0)) × (now (e .1 .1 .1 .1 .1 .1 .1 .1 .0) ≡ now (e′ .1 .1 .1 .1 .1 .1 .1 .1 .0)))
+writer-calls-stumpchoir-writer-finalize-one _ _ r r′ e e′ p q = let s = p ∙ sym q in (ap (λ (z : CrossingWith _ _). z .number) s, ap (λ (z : CrossingWith _ _). z .state) s, ap (λ (z : CrossingWith _ _). z .units) s, ap (λ (z : CrossingWith _ _). z .out) s)
+
+pub writer-calls-stumpchoir-writer-delete-one : One writer-calls-stumpchoir-writer-delete.Post (λ _ r e r′ e′. (r ≡ r′) × (now (e .1 .1 .1 .1 .1 .0) ≡ now (e′ .1 .1 .1 .1 .1 .0)) × (now (e .1 .1 .1 .1 .1 .1 .1 .0) ≡ now (e′ .1 .1 .1 .1 .1 .1 .1 .0)) × (now (e .1 .1 .1 .1 .1 .1 .1 .1 .0) ≡ now (e′ .1 .1 .1 .1 .1 .1 .1 .1 .0)))
+writer-calls-stumpchoir-writer-delete-one _ _ r r′ e e′ p q = let s = p ∙ sym q in (ap (λ (z : CrossingWith _ _). z .number) s, ap (λ (z : CrossingWith _ _). z .state) s, ap (λ (z : CrossingWith _ _). z .units) s, ap (λ (z : CrossingWith _ _). z .out) s)

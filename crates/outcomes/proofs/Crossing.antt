@@ -2,13 +2,15 @@
 use mathlib.Core.Path.{_≡_, sym, ap, _∙_}
 use denote.Ref.{now}
 use Rattle.outcomes.proofs.One.{One}
-use Rattle.outcomes.proofs.Answers.{block-info-one, block-type-one, geometry-one, header-one, metadata-one, reader-one, state-one, target-one}
+use Rattle.outcomes.proofs.Answers.{block-info-one, block-type-one, geometry-one, header-one, metadata-one, object-type-one, reader-one, state-one, target-one}
 use Rattle.crossing.proofs.call.GeometryRead.number.Reads as call-GeometryRead-number
 use Rattle.crossing.proofs.call.geometry_of.Reads as call-geometry-of
 use Rattle.crossing.proofs.call.geometry_alone.Reads as call-geometry-alone
 use Rattle.crossing.proofs.call.geometry_for.Reads as call-geometry-for
 use Rattle.crossing.proofs.call.fuse_of.Reads as call-fuse-of
 use Rattle.crossing.proofs.call.hand_back.Reads as call-hand-back
+use Rattle.crossing.proofs.kinds.ObjectTypeRead.number.Reads as kinds-ObjectTypeRead-number
+use Rattle.crossing.proofs.kinds.object_type_of.Reads as kinds-object-type-of
 use Rattle.crossing.proofs.records.BlockTypeRead.number.Reads as records-BlockTypeRead-number
 use Rattle.crossing.proofs.records.type_of.Reads as records-type-of
 use Rattle.crossing.proofs.records.record_of.Reads as records-record-of
@@ -46,6 +48,12 @@ call-fuse-of-one _ _ r r′ e e′ p q = p ∙ sym q
 
 pub call-hand-back-one : One call-hand-back.Post (λ _ r e r′ e′. (r ≡ r′) × (now (e .1 .0) ≡ now (e′ .1 .0)))
 call-hand-back-one _ _ r r′ e e′ p q = (p .0 ∙ sym (q .0), p .1 ∙ sym (q .1))
+
+pub kinds-ObjectTypeRead-number-one : One kinds-ObjectTypeRead-number.Post (λ _ r e r′ e′. r ≡ r′)
+kinds-ObjectTypeRead-number-one _ _ r r′ e e′ p q = p ∙ sym q
+
+pub kinds-object-type-of-one : One kinds-object-type-of.Post (λ _ r e r′ e′. r ≡ r′)
+kinds-object-type-of-one _ _ r r′ e e′ p q = object-type-one (p ∙ sym q)
 
 pub records-BlockTypeRead-number-one : One records-BlockTypeRead-number.Post (λ _ r e r′ e′. r ≡ r′)
 records-BlockTypeRead-number-one _ _ r r′ e e′ p q = p ∙ sym q

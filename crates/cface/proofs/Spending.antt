@@ -1,0 +1,120 @@
+-- What a refusal leaves of the numbers of a writer that came in: all of them, and after 8, which only a store gives, a writer that is spent.
+use mathlib.Core.Path.{_≡_, refl, sym, ap, _∙_}
+use mathlib.Core.Bool.{Bool, true, false, _&&_}
+use mathlib.Core.List.{List}
+use Prim.Native.Nat.{ℕ, zero, suc, _*_, _<_}
+use native.Mathlib.Omega.{arith}
+use lib.ListN.{getD}
+use lib.Dec.{leb, eqb}
+use borrow.Author.Tests.{ne-eqb}
+use Rattle.medium.specs.declared.granularity.Granularity.the-variants.{Bit, Word1, Word4}
+use Rattle.medium.specs.declared.granularity.GranularityRead.the-variants as granularity
+use Rattle.medium.specs.declared.geometry.Geometry.{Geometry}
+use Rattle.medium.specs.declared.fuse.Stored.{Stored}
+use Rattle.medium.specs.Granularity.{pick, granularityOf}
+use Rattle.medium.specs.Geometry.{geometryOk, checkOf, admit}
+use Rattle.medium.specs.Fuse.{storedNumber}
+use Rattle.medium.specs.Operation.{EndIn, Answer, done, refused, andThen, orRefuse, endedBy, unlessStored}
+use Rattle.objects.specs.declared.types.TypeRead.{TypeRead}
+use Rattle.objects.specs.declared.types.TypeRead.the-variants as ty
+use Rattle.objects.specs.declared.state.CompositeObjectState.{CompositeObjectState}
+use Rattle.objects.specs.declared.header.ObjectHeader.{ObjectHeader}
+use Rattle.objects.specs.Types.{typeOf}
+use Rattle.writer.specs.declared.writer.ObjectWriter.{ObjectWriter}
+use Rattle.crossing.specs.Crossing.{geometryOf, geometryWith, geometryFor, fuseOf, unitsAfter, crossedWith, crossingWith}
+use Rattle.crossing.specs.Values.{dataStateOf, stateOf, stateBy, headerFrom, headerOf, located}
+use Rattle.cface.specs.Writers.{sayableOf, writerWith, writerOf, writerNumbers, leftBy, spentAfter}
+use Rattle.crossing.proofs.Crossings.{with-on, with-stop}
+
+-- ---- no number that comes in gives 8
+
+-- a refusal of a sequence is one of its steps
+either : {A B : Type 0} (n : ℕ) (a : Answer A) (k : A → Answer B) → (a ≡ refused n → n < 8) → ((x : A) → k x ≡ refused n → n < 8) → andThen a k ≡ refused n → n < 8
+either n (done x) k f s h = s x h
+either n (refused m) k f s h = let z : m ≡ n = cc in f (ap refused z)
+
+never : {A : Type 0} (x : A) (n : ℕ) → done x ≡ refused n → n < 8
+never x n h = let z : _≡_ {A = ℕ} 0 1 = cc in absurd (omega arith)
+
+-- and one by a test has the number of the test
+tests : (m n : ℕ) → m < 8 → orRefuse m ≡ refused n → n < 8
+tests zero n l h = never tt n h
+tests (suc m) n l h = let z : suc m ≡ n = cc in omega arith
+
+-- past a choice that was not taken
+past : {A : Type 0} (t : Bool) (a : A) (r : Answer A) (n : ℕ) → pick t (done a) r ≡ refused n → r ≡ refused n
+past true a r n h = let z : _≡_ {A = ℕ} 0 1 = cc in absurd (omega arith)
+past false a r n h = h
+
+pub geometry-uncut : (room b s c size count n : ℕ) → geometryFor room b s c size count ≡ refused n → n < 8
+unfolding geometryFor geometryOf granularityOf admit
+geometry-uncut room b s c size count n e =
+    either n (geometryOf b s c size count) (λ g. andThen (orRefuse (checkOf g room)) (λ _. done g)) (named (eqb b 0) (eqb b 1) (eqb b 4))
+    (λ g. either n (orRefuse (checkOf g room)) (λ _. done g) (tests (checkOf g room) n (checked (geometryOk g) (eqb (g .size * g .count) room))) (λ _. never g n))
+    e
+  where
+    checked : (x y : Bool) → pick x (pick y 0 7) 6 < 8
+    checked true true = omega arith
+    checked true false = omega arith
+    checked false y = omega arith
+
+    named : (x y z : Bool) → geometryWith (pick x (granularity.Got Bit) (pick y (granularity.Got Word1) (pick z (granularity.Got Word4) (granularity.Refused 6)))) s c size count ≡ refused n → n < 8
+    named true y z h = never _ n h
+    named false true z h = never _ n h
+    named false false true h = never _ n h
+    named false false false h = let z : 6 ≡ n = cc in omega arith
+
+four : {A : Type 0} (n : ℕ) → _≡_ {A = Answer A} (refused 4) (refused n) → n < 8
+four n h = let z : 4 ≡ n = cc in omega arith
+
+state-uncut : (kind k n : ℕ) → stateOf kind k ≡ refused n → n < 8
+unfolding stateOf dataStateOf
+state-uncut kind k n e = go (typeOf kind) e
+  where
+    go : (t : TypeRead) → stateBy t k ≡ refused n → n < 8
+    go (ty.Got t) h = four {A = CompositeObjectState} n (past (eqb k 3) _ _ n (past (eqb k 2) _ _ n (past (eqb k 1) _ _ n h)))
+    go ty.Free h = four {A = CompositeObjectState} n (past (eqb k 0) _ _ n h)
+    go (ty.Refused m) h = four {A = CompositeObjectState} n h
+
+header-uncut : (ns : List ℕ) (n : ℕ) → headerOf ns ≡ refused n → n < 8
+unfolding headerFrom
+header-uncut ns n e =
+    either n (stateOf (getD ns 0 0) (getD ns 1 0)) (λ st. done (made st)) (state-uncut (getD ns 0 0) (getD ns 1 0) n) (λ st. never (made st) n) e
+  where
+    made : CompositeObjectState → ObjectHeader
+    made st = record { state = st; size = getD ns 2 0; location = located (getD ns 3 0) (getD ns 4 0) }
+
+said-small : (a b c d spent : ℕ) → sayableOf a b c d spent < 8
+unfolding sayableOf
+said-small a b c d spent = go (leb a 255 && leb b 255 && leb c 255 && leb d 255 && leb spent 1)
+  where
+    go : (t : Bool) → pick {A = ℕ} t 0 4 < 8
+    go true = omega arith
+    go false = omega arith
+
+pub writer-uncut : (ns : List ℕ) (n : ℕ) → writerOf ns ≡ refused n → n < 8
+unfolding writerOf
+writer-uncut ns n e =
+    either n (headerOf ns) (λ h. andThen (orRefuse said) (λ _. done (writerWith h ns))) (header-uncut ns n)
+    (λ h. either n (orRefuse said) (λ _. done (writerWith h ns)) (tests said n (said-small _ _ _ _ _)) (λ _. never (writerWith h ns) n))
+    e
+  where
+    said : ℕ
+    said = sayableOf (getD ns 7 0) (getD ns 8 0) (getD ns 9 0) (getD ns 10 0) (getD ns 11 0)
+
+-- ---- how the end of a store of a writer that came in crosses
+
+module _ {S : Type 0} (e : EndIn S ObjectWriter) (u : ℕ) (ns : List ℕ) where
+  pub spent-on : (r : Stored) (x : ObjectWriter) (after : S) (n v : ℕ) (w : List ℕ) → endedBy r x after ≡ e → n ≡ storedNumber r → v ≡ unitsAfter r u
+      → w ≡ leftBy (storedNumber r) (unlessStored r ns (writerNumbers x)) → crossedWith n v after w ≡ spentAfter (crossingWith writerNumbers u ns e)
+  unfolding spentAfter
+  spent-on r x after n v w h en ev ew =
+      ap (λ (l : List ℕ). crossedWith n v after l) (ew ∙ ap (λ (m : ℕ). leftBy m (unlessStored r ns (writerNumbers x))) (sym en))
+      ∙ ap spentAfter (with-on e writerNumbers u ns r x after n v (unlessStored r ns (writerNumbers x)) h en ev refl)
+
+  pub spent-stop : (fused : Bool) (n : ℕ) (s : S) → n < 8 → e ≡ record { answer = refused n; fuse = fuseOf fused u; state = s }
+      → crossedWith n u s ns ≡ spentAfter (crossingWith writerNumbers u ns e)
+  unfolding spentAfter
+  spent-stop fused n s l h =
+      let q : leftBy n ns ≡ ns = rw (ne-eqb n 8 (λ z. omega arith)) in
+      ap (λ (l : List ℕ). crossedWith n u s l) (sym q) ∙ ap spentAfter (with-stop e writerNumbers u ns fused n s h)

@@ -1,0 +1,36 @@
+use borrow.Author.Needs.{needs}
+use Rattle.cface.proofs.writers.hand_out.Statement.{statement}
+use Rattle.cface.proofs.writers.hand_out.Tie as tie
+
+enum-told : tie.Need-enum-told
+enum-told c = search needs
+
+enum-told-2 : tie.Need-enum-told-2
+enum-told-2 c = search needs
+
+hand-back-requires : tie.Need-hand-back-requires
+hand-back-requires c κs = search needs
+
+returns : tie.Need-returns
+returns c = (c .hand-back .ensures .0, (c .hand-back .ensures .1, rw (c .before .before .enum-told2 .given .1)))
+
+put-writer-requires : tie.Need-put-writer-requires
+put-writer-requires c κs = rw (c .before .enum-told .given .1) at (c .before .before .before .before .pre)
+
+hand-back-requires-2 : tie.Need-hand-back-requires-2
+hand-back-requires-2 c κs = search needs
+
+returns-2 : tie.Need-returns-2
+returns-2 c = (c .hand-back2 .ensures .0, (c .hand-back2 .ensures .1, rw (c .before .before .before .before .enum-told .given .1) (c .before .before .put-writer .ensures)))
+
+pub hand-out-spec : {M : Type 1} → statement M
+hand-out-spec =
+    tie.close
+    (tie.spec
+    enum-told
+    enum-told-2
+    hand-back-requires
+    returns
+    put-writer-requires
+    hand-back-requires-2
+    returns-2)
