@@ -27,7 +27,7 @@ use Rattle.objects.specs.Types.{stateIn}
 use Rattle.objects.specs.Header.{stateAt, sizedAt, headerAt}
 use Rattle.objects.specs.Info.{Info, found, infoIn, infoAt}
 use Rattle.objects.specs.Listing.{startOf, nextIn, atEnd, nextOf, Listing, visited, listBy, listFrom, listing}
-use Rattle.objects.proofs.Listing.{next-moves}
+use Rattle.objects.proofs.Listing.{next-found, next-moves}
 use Rattle.collector.specs.Table.{Event, Both, gc}
 use Rattle.collector.specs.Finished.{Each}
 use Rattle.collector.proofs.Events.{Misses-event, bytes-stay, length-stays}
@@ -153,6 +153,10 @@ list-agree (suc n) g i img other v = rw (next-agree g i img other v) (go (nextOf
 pub listing-agree : (g : Geometry) (b : ℕ) (img other : List ℕ) → Agree g b 0 (g .size) img other → listing g b other ≡ listing g b img
 unfolding listing
 listing-agree g b img other v = list-agree (g .size) g (startOf g b) img other (agree-less g b 0 (g .size) _ (g .size) img other v (omega arith) (le-refl (g .size)))
+
+-- where an object is shown the check was passed
+pub found-short : (g : Geometry) (i : ObjectIterator) (img : List ℕ) (h : ObjectHeader) (j : ObjectIterator) → nextOf g i img ≡ next.Object h j → g .s ≤ 3
+found-short g i img h j e = short-size g (length img) (zero-of (checkOf g (length img)) tt (next-found g i img h j e .checked))
 
 -- an object that was found is at the place where it was looked for
 pub found-at : (g : Geometry) (at : ObjectLocation) (img : List ℕ) (h : ObjectHeader) → infoAt g at img ≡ done (found h) → h .location ≡ at

@@ -9,5 +9,8 @@ pub mod Stores
 pub mod Untouched
 pub mod Finished
 pub mod Marked
+pub mod Left
+pub mod Deleted
+pub mod Unreadable
 pub mod Whole
 pub mod Collections

@@ -38,35 +38,31 @@ use Rattle.objects.specs.Listing.{startOf, behind, nextIn, nextOf, Visit, listB
 use Rattle.objects.proofs.Listing.{next-found, next-moves}
 use Rattle.objects.proofs.Places.{places}
 use Rattle.collector.specs.Finished.{Allocated, Reached, Guarded}
-use Rattle.collector.proofs.Agreeing.{Agree, zero-of, short-size, read-agree, info-agree, next-by}
-use Rattle.collector.proofs.Untouched.{Outside, ahead}
+use Rattle.collector.proofs.Agreeing.{Agree, found-short, read-agree, info-agree, next-by}
+use Rattle.collector.proofs.Untouched.{header-avoids, Outside, ahead}
 
 -- ---- a header of which the type and the size stay
 
--- a part that can be read in one image can be read in the other
-pub record First (g : Geometry) (b o n : ℕ) (other bs : List ℕ) : Type 0 where
-  pub read : List ℕ
-  pub reads : readAt g b o n other ≡ done read
-  pub same : getD read 0 0 ≡ getD bs 0 0
+-- what can be read in one image can be read in another of the same length
+pub record Both-read (g : Geometry) (b o n : ℕ) (img other bs : List ℕ) : Type 0 where
+  pub this : bs ≡ part (address g b o) n img
+  pub that : readAt g b o n other ≡ done (part (address g b o) n other)
 
-first-read : (g : Geometry) (b o n : ℕ) (img other bs : List ℕ) → length other ≡ length img → 0 < n → getD other (address g b o) 0 ≡ getD img (address g b o) 0
-    → readAt g b o n img ≡ done bs → First g b o n other bs
+pub both-read : (g : Geometry) (b o n : ℕ) (img other bs : List ℕ) → length other ≡ length img → readAt g b o n img ≡ done bs → Both-read g b o n img other bs
 unfolding readAt
-first-read g b o n img other bs l h e q = go (eqb (readable g (length img) b o n) 0) refl q
+both-read g b o n img other bs l q = go (eqb (readable g (length img) b o n) 0) refl q
   where
-    head : (xs : List ℕ) → getD (part (address g b o) n xs) 0 0 ≡ getD xs (address g b o) 0
-    head xs = getD-part (address g b o) n xs 0 0 h ∙ ap (λ (k : ℕ). getD xs k 0) (omega arith)
-
     go : (t : Bool) → eqb (readable g (length img) b o n) 0 ≡ t → pick t (done (part (address g b o) n img)) (refused (readable g (length img) b o n)) ≡ done bs
-        → First g b o n other bs
-    go true z p =
-        let s : part (address g b o) n img ≡ bs = cc in
-        record {
-          read = part (address g b o) n other;
-          reads = rw (l, z);
-          same = head other ∙ e ∙ sym (head img) ∙ ap (λ (x : List ℕ). getD x 0 0) s;
-        }
+        → Both-read g b o n img other bs
+    go true z p = record { this = cc; that = rw (l, z) }
     go false z p = let x : _≡_ {A = ℕ} 0 1 = cc in absurd (omega arith)
+
+-- a byte of the part that is the same in both
+pub same-byte : (g : Geometry) (b o n i : ℕ) (img other : List ℕ) → i < n → getD other (address g b (o + i)) 0 ≡ getD img (address g b (o + i)) 0
+    → getD (part (address g b o) n other) i 0 ≡ getD (part (address g b o) n img) i 0
+same-byte g b o n i img other h e =
+    let p : address g b o + i ≡ address g b (o + i) = omega arith in
+    getD-part (address g b o) n other i 0 h ∙ rw p e ∙ sym (getD-part (address g b o) n img i 0 h)
 
 -- an object of this size, or marks that nothing can read
 pub data Marked (g : Geometry) (at : ObjectLocation) (n : ℕ) (other : List ℕ) : Type 0 where
@@ -79,13 +75,13 @@ data Remarked (g : Geometry) (at : ObjectLocation) (t : ObjectType) (other : Lis
   illegible : (k : ℕ) → stateAt g at other ≡ refused k → Remarked g at t other
 
 -- an object that was found: its state and its size were read
-record Parts (g : Geometry) (at : ObjectLocation) (img : List ℕ) (h : ObjectHeader) : Type 0 where
-  type : ObjectType
-  mark : ObjectDataState
-  state : stateAt g at img ≡ done (comp.Allocated type mark)
-  sized : sizedAt g at (comp.Allocated type mark) img ≡ done h
+pub record Parts (g : Geometry) (at : ObjectLocation) (img : List ℕ) (h : ObjectHeader) : Type 0 where
+  pub type : ObjectType
+  pub mark : ObjectDataState
+  pub state : stateAt g at img ≡ done (comp.Allocated type mark)
+  pub sized : sizedAt g at (comp.Allocated type mark) img ≡ done h
 
-state-sized : (g : Geometry) (at : ObjectLocation) (img : List ℕ) (st : CompositeObjectState) (v : ObjectHeader) → sizedAt g at st img ≡ done v → v .state ≡ st
+pub state-sized : (g : Geometry) (at : ObjectLocation) (img : List ℕ) (st : CompositeObjectState) (v : ObjectHeader) → sizedAt g at st img ≡ done v → v .state ≡ st
 unfolding sizedAt
 state-sized g at img st v e = go (readAt g (at .block) (at .offset + sizeAt (g .granularity)) (g .s) img) e
   where
@@ -93,7 +89,7 @@ state-sized g at img st v e = go (readAt g (at .block) (at .offset + sizeAt (g .
     go (done bs) p = let r : record { state = st; size = number bs; location = at } ≡ v = cc in ap (λ (z : ObjectHeader). z .state) (sym r)
     go (refused n) p = let z : _≡_ {A = ℕ} 0 1 = cc in absurd (omega arith)
 
-parts : (g : Geometry) (at : ObjectLocation) (img : List ℕ) (h : ObjectHeader) → infoAt g at img ≡ done (found h) → Parts g at img h
+pub parts : (g : Geometry) (at : ObjectLocation) (img : List ℕ) (h : ObjectHeader) → infoAt g at img ≡ done (found h) → Parts g at img h
 unfolding infoAt headerAt
 parts g at img h e = go (stateAt g at img) refl e
   where
@@ -134,10 +130,13 @@ module _ (g : Geometry) (at : ObjectLocation) (img other : List ℕ) (l : length
           → Remarked g at t other
       go (refused n) q p = let z : _≡_ {A = ℕ} 0 1 = cc in absurd (omega arith)
       go (done bs) q p =
-          let v = first-read g (at .block) (at .offset) (sizeAt (g .granularity)) img other bs l (omega (arith, places (g .granularity) .least)) type-same q in
+          let v = both-read g (at .block) (at .offset) (sizeAt (g .granularity)) img other bs l q in
+          let z : at .offset + 0 ≡ at .offset = omega arith in
+          let s : getD (part (address g (at .block) (at .offset)) (sizeAt (g .granularity)) other) 0 0 ≡ getD bs 0 0 =
+          same-byte g (at .block) (at .offset) (sizeAt (g .granularity)) 0 img other (omega (arith, places (g .granularity) .least)) (rw z type-same) ∙ ap (λ (x : List ℕ). getD x 0 0) (sym (v .this)) in
           let y = typed (typeOf (getD bs 0 0)) _ p in
-          with-mark (marksOf (g .granularity) (getD (v .read) (finishAt (g .granularity)) 0) (getD (v .read) (deleteAt (g .granularity)) 0))
-          (rw (v .reads, v .same, y))
+          with-mark (marksOf (g .granularity) (getD (part (address g (at .block) (at .offset)) (sizeAt (g .granularity)) other) (finishAt (g .granularity)) 0) (getD (part (address g (at .block) (at .offset)) (sizeAt (g .granularity)) other) (deleteAt (g .granularity)) 0))
+          (rw (v .that, s, y))
 
   resized : (st new : CompositeObjectState) (h : ObjectHeader) → sizedAt g at st img ≡ done h → sizedAt g at new other ≡ done (record { state = new; size = h .size; location = at })
   unfolding sizedAt
@@ -172,7 +171,7 @@ behind-same : (g : Geometry) (i : ObjectIterator) (v h : ObjectHeader) → v .si
 unfolding totalOf payloadOf
 behind-same g i v h e = rw e
 
-next-is : (g : Geometry) (i : ObjectIterator) (img other : List ℕ) (x : Answer Info) → length other ≡ length img → orRefuse (checkOf g (length img)) ≡ done tt
+pub next-is : (g : Geometry) (i : ObjectIterator) (img other : List ℕ) (x : Answer Info) → length other ≡ length img → orRefuse (checkOf g (length img)) ≡ done tt
     → i .location .offset + header (g .granularity) (g .s) < g .size → infoAt g (i .location) other ≡ x → nextOf g i other ≡ nextIn g i x
 unfolding nextOf
 next-is g i img other x l c f e = rw (l, c, lt-leb _ _ f, e)
@@ -206,7 +205,7 @@ still (suc n) g i img other v r = go (nextOf g i img) refl (v .same) r (λ j w q
     go (next.Object h j) e s (inl two) more =
         let f = next-found g i img h j e in
         let m = next-moves g i img h j e in
-        let a = laid (g .granularity) (g .s) 0 (short-size g (length img) (zero-of (checkOf g (length img)) tt (f .checked))) in
+        let a = laid (g .granularity) (g .s) 0 (found-short g i img h j e) in
         let w : Agree g b from (from + header (g .granularity) (g .s)) img other =
         record { long = v .long; same = λ o lo hi. s o lo (omega (arith, f .fits)) ((λ one. absurd (omega (arith, two, one))), ahead n g o j img (omega (arith, m .forward))) } in
         let p = next-by g i img other (v .long) (info-agree g (i .location) (from + header (g .granularity) (g .s)) img other w (λ _. omega (arith, a .size-plain)) (λ _. omega (arith, a .size-plain))) in
@@ -214,12 +213,12 @@ still (suc n) g i img other v r = go (nextOf g i img) refl (v .same) r (λ j w q
     go (next.Object h j) e s (inr q) more =
         let f = next-found g i img h j e in
         let m = next-moves g i img h j e in
-        let a = laid (g .granularity) (g .s) 0 (short-size g (length img) (zero-of (checkOf g (length img)) tt (f .checked))) in
+        let a = laid (g .granularity) (g .s) 0 (found-short g i img h j e) in
         let w : Agree g b (from + sizeAt (g .granularity)) (from + sizeAt (g .granularity) + g .s) img other =
-        record { long = v .long; same = λ o lo hi. s o (omega arith) (omega (arith, f .fits, a .size-plain)) ((λ one. inr (q .0 one, inr (omega (arith, a .delete-size)))), ahead n g o j img (omega (arith, m .forward, a .size-plain))) } in
-        let y = s from (le-refl from) (omega (arith, f .fits)) ((λ one. inr (q .0 one, inl (omega (arith, a .pos, a .type-delete)))), ahead n g from j img (omega (arith, m .forward, a .size-plain, a .delete-size, a .pos))) in
+        record { long = v .long; same = λ o lo hi. s o (omega arith) (omega (arith, f .fits, a .size-plain)) ((λ one. (inr (omega (arith, a .delete-size)), (λ z. absurd (q .0 one z)))), ahead n g o j img (omega (arith, m .forward, a .size-plain))) } in
+        let y = s from (le-refl from) (omega (arith, f .fits)) ((λ one. (inl (omega (arith, a .pos, a .type-delete)), (λ z. absurd (q .0 one z)))), ahead n g from j img (omega (arith, m .forward, a .size-plain, a .delete-size, a .pos))) in
         let z = read-agree g b (from + sizeAt (g .granularity)) (from + sizeAt (g .granularity) + g .s) (from + sizeAt (g .granularity)) (g .s) img other w (le-refl (from + sizeAt (g .granularity))) (λ _. le-refl (from + sizeAt (g .granularity) + g .s)) in
-        let t : Spared n g j img other = record { long = v .long; same = λ o lo hi u. rw (m .block) (s o (omega (arith, m .forward)) hi ((λ _. inl (inr (omega (arith, m .forward)))), u)) } in
+        let t : Spared n g j img other = record { long = v .long; same = λ o lo hi u. rw (m .block) (s o (omega (arith, m .forward)) hi ((λ _. header-avoids g (found-short g i img h j e) o (record { offset = from; object = h }) (inr (omega (arith, m .forward)))), u)) } in
         by h (f .then) (f .checked) (f .fits) (marked g (i .location) img other (v .long) y z h (f .object)) (more j t (q .1))
       where
         by : (h : ObjectHeader) → j ≡ behind g i h → orRefuse (checkOf g (length img)) ≡ done tt → from + header (g .granularity) (g .s) < g .size

@@ -1,5 +1,5 @@
 -- What each step of a pass stores: a property that its writes, erases and fields have is one of all its events.
-use mathlib.Core.Path.{_≡_, refl, sym, ap}
+use mathlib.Core.Path.{_≡_, refl}
 use mathlib.Core.Bool.{Bool, true, false}
 use mathlib.Core.List.{List, [], _∷_}
 use Prim.Native.Nat.{ℕ, _+_, _-_, _*_, _≤_, _<_}
@@ -52,15 +52,14 @@ pub record Marks (P : FlashUnit → Type 0) (g : Geometry) (at : ObjectLocation)
 pub record Sizes (P : FlashUnit → Type 0) (g : Geometry) (at : ObjectLocation) : Type 0 where
   pub size : (n : ℕ) (img : List ℕ) → All P (write g (at .block) (at .offset + sizeAt (g .granularity)) (bytes (g .s) n) img .events)
 
--- the header that comes back from a store of the size is at the same place
-sized-at : (g : Geometry) (h v : ObjectHeader) (n : ℕ) (img : List ℕ) → setPayloadSize g h n img .answer ≡ done v → v .location ≡ h .location
+-- the header that comes back from a store of the size
+pub sized-as : (g : Geometry) (h v : ObjectHeader) (n : ℕ) (img : List ℕ) → setPayloadSize g h n img .answer ≡ done v → v ≡ withSize h n
 unfolding setPayloadSize ask
-sized-at g h v n img e =
+sized-as g h v n img e =
     let x = bound (test (λ i. sizableOf g h (length i))) (λ _. write g (h .location .block) (h .location .offset + sizeAt (g .granularity)) (bytes (g .s) n) >>= λ _. give (withSize h n)) img v e in
     let y = bound (write g (h .location .block) (h .location .offset + sizeAt (g .granularity)) (bytes (g .s) n)) (λ _. give (withSize h n)) (happen flash (test {W = flash} (λ i. sizableOf g h (length i)) img .events) img) v (x .second) in
     let q : _≡_ {A = Answer ObjectHeader} (done (withSize h n)) (done v) = y .second in
-    let p : withSize h n ≡ v = cc in
-    ap (λ (z : ObjectHeader). z .location) (sym p)
+    cc
 
 module _ (P : FlashUnit → Type 0) (g : Geometry) where
   marking-units : (h : ObjectHeader) (t : ObjectType) (img : List ℕ) → Marks P g (h .location) → All P (marking g h t data-state.Deleted img .events)
@@ -107,7 +106,7 @@ module _ (P : FlashUnit → Type 0) (g : Geometry) where
       go false = delete-units h img k
   repair-by-units h n Unset img k z =
       bind-units P (setPayloadSize g h n) (λ v. deleteObject g v) img (size-units h n img (z refl))
-      (λ v i e. delete-units v i (rw (sized-at g h v n img e) k))
+      (λ v i e. delete-units v i (rw (sized-as g h v n img e) k))
 
   repair-units : (h : ObjectHeader) (used : ℕ) (img : List ℕ) → Marks P g (h .location) → (payloadSizeOf (g .s) h ≡ Unset → Sizes P g (h .location))
       → All P (repairing g h used img .events)

@@ -1,7 +1,7 @@
 -- The first pass stores only in the headers of unfinished objects that the listing of its block shows; of one that has its size, only the
 -- delete mark. The objects of a listing do not overlap, so no byte of a finished one is among them.
 use mathlib.Core.Path.{_≡_, refl, sym, ap, _∙_, subst}
-use mathlib.Core.Logic.{_⊎_, inl, inr}
+use mathlib.Core.Logic.{inl, inr}
 use mathlib.Core.Bool.{Bool, true, false}
 use mathlib.Core.List.{List, [], _∷_}
 use Prim.Native.Nat.{ℕ, zero, suc, _+_, _≤_, _<_}
@@ -38,7 +38,7 @@ use Rattle.collector.specs.Table.{Event, Both, gc}
 use Rattle.collector.specs.Passes.{visitOne, goOn, visiting, deleting, deleteBy, deleteInvalidObjectsInBlock}
 use Rattle.collector.specs.Finished.{Allocated, Finished, Every, Each}
 use Rattle.collector.proofs.Events.{Misses-event, bind-each, ask-each, asked-each}
-use Rattle.collector.proofs.Agreeing.{Agree, agree-self, agree-less, agree-on, next-agree, found-at}
+use Rattle.collector.proofs.Agreeing.{Agree, agree-self, agree-less, agree-on, next-agree, found-at, found-short}
 use Rattle.collector.proofs.Stores.{Visited, visit-each}
 
 -- ---- a byte that the repair of an object misses
@@ -61,11 +61,19 @@ off-at : (g : Geometry) (b from n o : ℕ) → Off from n o → Off (address g b
 off-at g b from n o (inl h) = inl (omega arith)
 off-at g b from n o (inr h) = inr (omega arith)
 
--- outside the header of an object; or it has its size, and outside its delete mark
+-- outside what the repair of an object stores: its delete mark, and its size where it has none
 abbrev pub Avoids : Geometry → ℕ → Visit → Type 0
 Avoids g o v =
-    Off (v .offset) (header (g .granularity) (g .s)) o
-    ⊎ ((v .object .size ≡ unsetOf (g .s) → ⊥) × Off (v .offset + deleteAt (g .granularity)) (widthOf (g .granularity)) o)
+    Off (v .offset + deleteAt (g .granularity)) (widthOf (g .granularity)) o
+    × (v .object .size ≡ unsetOf (g .s) → Off (v .offset + sizeAt (g .granularity)) (alignOf (widthOf (g .granularity)) (g .s)) o)
+
+-- what is outside the header
+pub header-avoids : (g : Geometry) → g .s ≤ 3 → (o : ℕ) (v : Visit) → Off (v .offset) (header (g .granularity) (g .s)) o → Avoids g o v
+header-avoids g few o v k =
+    let l = laid (g .granularity) (g .s) 0 few in (
+      inner (v .offset) (header (g .granularity) (g .s)) (deleteAt (g .granularity)) (widthOf (g .granularity)) o (omega (arith, l .delete-size, l .size-plain)) k,
+      (λ _. inner (v .offset) (header (g .granularity) (g .s)) (sizeAt (g .granularity)) (alignOf (widthOf (g .granularity)) (g .s)) o (l .size-header) k),
+    )
 
 unset-is : (s : ℕ) (h : ObjectHeader) → payloadSizeOf s h ≡ Unset → h .size ≡ unsetOf s
 unfolding payloadSizeOf
@@ -82,22 +90,12 @@ visitOf h = record { offset = h .location .offset; object = h }
 pub avoids-visited : (g : Geometry) → g .s ≤ 3 → (b o : ℕ) (h : ObjectHeader) → h .location .block ≡ b → Avoids g o (visitOf h) → Visited (Misses-event (address g b o)) g b h
 avoids-visited g few b o h e v =
     record {
-      marks = record { mark = λ img. rw e (write-miss g b (h .location .offset + deleteAt (g .granularity)) (0 ∷ []) img (address g b o) (off-at g b _ _ o (mark v))) };
-      sizes = λ u. record { size = λ n img. rw e (write-miss g b (h .location .offset + sizeAt (g .granularity)) (bytes (g .s) n) img (address g b o) (rw (length-bytes (g .s) n) (off-at g b _ _ o (size (unset-is (g .s) h u) v)))) };
+      marks =
+          record { mark = λ img. rw e (write-miss g b (h .location .offset + deleteAt (g .granularity)) (0 ∷ []) img (address g b o) (rw (laid (g .granularity) (g .s) 0 few .one) (off-at g b _ _ o (v .0)))) };
+      sizes =
+          λ u. record { size = λ n img. rw e (write-miss g b (h .location .offset + sizeAt (g .granularity)) (bytes (g .s) n) img (address g b o) (rw (length-bytes (g .s) n) (off-at g b _ _ o (v .1 (unset-is (g .s) h u))))) };
       allows = tt;
     }
-  where
-    mark : Avoids g o (visitOf h) → Off (h .location .offset + deleteAt (g .granularity)) (alignOf (widthOf (g .granularity)) 1) o
-    mark (inl k) =
-        let l = laid (g .granularity) (g .s) 0 few in
-        inner (h .location .offset) (header (g .granularity) (g .s)) (deleteAt (g .granularity)) (alignOf (widthOf (g .granularity)) 1) o (omega (arith, l .one, l .delete-size, l .size-plain)) k
-    mark (inr k) = rw (laid (g .granularity) (g .s) 0 few .one) (k .1)
-
-    size : h .size ≡ unsetOf (g .s) → Avoids g o (visitOf h) → Off (h .location .offset + sizeAt (g .granularity)) (alignOf (widthOf (g .granularity)) (g .s)) o
-    size u (inl k) =
-        let l = laid (g .granularity) (g .s) 0 few in
-        inner (h .location .offset) (header (g .granularity) (g .s)) (sizeAt (g .granularity)) (alignOf (widthOf (g .granularity)) (g .s)) o (l .size-header) k
-    size u (inr k) = absurd (k .0 u)
 
 -- ---- the first pass in a block visits what the listing shows, and stores nothing behind the place where it is
 
@@ -109,9 +107,9 @@ module _ (g : Geometry) (few : g .s ≤ 3) (b used : ℕ) (P : Event → Type 0)
   visit-agree h i j s img e c m v =
       agree-on g b (j .location .offset) (g .size) img (visitOne g b used h s .events) s
       (agree-less g b (i .location .offset) (g .size) (j .location .offset) (g .size) img (s .image) v (omega arith) (le-refl (g .size)))
-      (λ o x y. visit-each (Misses-event (address g b o)) g b used h s (λ _. avoids-visited g few b o h (rw e c) (inl (rw e (inr (omega arith))))))
+      (λ o x y. visit-each (Misses-event (address g b o)) g b used h s (λ _. avoids-visited g few b o h (rw e c) (header-avoids g few o (visitOf h) (rw e (inr (omega arith))))))
 
-  deleting-each : (n : ℕ) (i : ObjectIterator) (s : Both) (img : List ℕ) → i .location .block ≡ b → Agree g b (i .location .offset) (g .size) img (s .image)
+  pub deleting-each : (n : ℕ) (i : ObjectIterator) (s : Both) (img : List ℕ) → i .location .block ≡ b → Agree g b (i .location .offset) (g .size) img (s .image)
       → Every W (listFrom n g i img .visits) → Each P (deleting n g b used i s .events)
   unfolding deleting listFrom
   deleting-each zero i s img c v w = ask-each P (λ _. done (tt {0})) s
@@ -167,7 +165,7 @@ ahead (suc n) g o i img h = go (nextOf g i img) refl (λ j k. ahead n g o j img 
   where
     go : (x : Next) → nextOf g i img ≡ x → ((j : ObjectIterator) → o < j .location .offset → Outside g o (listFrom n g j img .visits))
         → Outside g o (listBy x i (λ j. listFrom n g j img) .visits)
-    go (next.Object v j) e more = let m = next-moves g i img v j e in ((λ _. inl (inl h)), more j (omega (arith, m .forward)))
+    go (next.Object v j) e more = let m = next-moves g i img v j e in ((λ _. header-avoids g (found-short g i img v j e) o (record { offset = i .location .offset; object = v }) (inl h)), more j (omega (arith, m .forward)))
     go next.Free e more = tt
     go next.End e more = tt
     go (next.Refused k) e more = tt
@@ -200,7 +198,7 @@ finished-outside (suc n) g o i img h = go (nextOf g i img) refl h (λ j k. finis
     go (next.Object v j) e (inr r) more =
         let m = next-moves g i img v j e in
         let k = finished-ahead n g o j img r in
-        ((λ _. inl (inr (omega (arith, m .forward)))), more j r)
+        ((λ _. header-avoids g (found-short g i img v j e) o (record { offset = i .location .offset; object = v }) (inr (omega (arith, m .forward)))), more j r)
     go next.Free e r more = tt
     go next.End e r more = tt
     go (next.Refused k) e r more = tt

@@ -71,7 +71,7 @@ step-skips k g few b i c h n r s =
 -- ---- sweeps
 
 module _ (step : Step) (g : Geometry) (P : Event → Type 0) where
-  block-each : (c : ℕ) (s : Both) → ((r : BlockInfo) → Each P (step g c r s .events)) → Each P (blockStep step g c s .events)
+  pub block-each : (c : ℕ) (s : Both) → ((r : BlockInfo) → Each P (step g c r s .events)) → Each P (blockStep step g c s .events)
   unfolding blockStep
   block-each c s h = asked-each P (λ (x : Both). recordAt (x .table) c) (λ r. step g c r) s (λ r _. h r)
 
@@ -109,13 +109,15 @@ module _ (k : PassKind) (g : Geometry) (few : g .s ≤ 3) (P : Event → Type 0)
 -- ---- a pass
 
 -- the test of the table passed, so the size field is short
-module _ (step : Step) (g : Geometry) (P : Event → Type 0) (s : Both) where
-  pass-each : (g .s ≤ 3 → Each P (sweep step (g .count) g 0 s .events)) → Each P (pass step g s .events)
-  unfolding pass test
-  pass-each h =
-      asked-each P (λ (x : Both). orRefuse (collectable g (length (x .image)) (x .table))) (λ _. sweep step (g .count) g 0) s
-      (λ u e. h (short-size g (length (s .image))
-      (collect-checked g (length (s .image)) (collectable g (length (s .image)) (s .table)) (s .table) refl (zero-of (collectable g (length (s .image)) (s .table)) u e))))
+pub tested-short : (g : Geometry) (s : Both) (u : Unit {0}) → orRefuse (collectable g (length (s .image)) (s .table)) ≡ done u → g .s ≤ 3
+tested-short g s u e =
+    short-size g (length (s .image))
+    (collect-checked g (length (s .image)) (collectable g (length (s .image)) (s .table)) (s .table) refl (zero-of (collectable g (length (s .image)) (s .table)) u e))
+
+pass-each : (step : Step) (g : Geometry) (P : Event → Type 0) (s : Both) → (g .s ≤ 3 → Each P (sweep step (g .count) g 0 s .events)) → Each P (pass step g s .events)
+unfolding pass test
+pass-each step g P s h =
+    asked-each P (λ (x : Both). orRefuse (collectable g (length (x .image)) (x .table))) (λ _. sweep step (g .count) g 0) s (λ u e. h (tested-short g s u e))
 
 -- a block of which a pass misses every byte and skips every field
 pub kept-by : {A : Type 0} (f : Fuse) (p : Pass A) (g : Geometry) (b : ℕ) (s : Both) → ((o : ℕ) → o < g .size → Each (Misses-event (address g b o)) (p s .events))

@@ -1,11 +1,12 @@
 -- What the passes do to finished objects: "no pass changes a byte of a Finalized object in a block that it does not format, and no pass
--- formats a block in which a listing shows a Finalized object". Listings here are of the image before the pass. An object that runs past
--- the end of its block, which no write makes, is kept as far as its block goes.
+-- formats a block in which a listing shows a Finalized object". Listings here are of the image before the pass. An object whose size runs
+-- past the end of its block (no writer makes one) is kept as far as its block goes: the row `overrun`.
 use mathlib.Core.Path.{_≡_}
 use mathlib.Core.Logic.{_⊎_}
 use mathlib.Core.List.{List, [], _∷_}
 use Prim.Native.Nat.{ℕ, _+_, _*_, _≤_, _<_}
 use lib.ListN.{getD}
+use Rattle.medium.specs.declared.granularity.Granularity.the-variants.{Bit}
 use Rattle.medium.specs.declared.geometry.Geometry.{Geometry}
 use Rattle.medium.specs.declared.fuse.Fuse.{Fuse}
 use Rattle.medium.specs.Geometry.{address}
@@ -106,11 +107,12 @@ FirstNeverErases = (g : Geometry) (s : Both) → Each Programs (deleteInvalidObj
 
 -- ---- a whole collection, at any fuse and in every end
 
--- no byte of a finished object is changed where one is shown with no unfinished object before it that has no size. (Such an object gets
--- one that reaches over what is behind it: the row `swallowed`.)
+-- no byte of a finished object is changed; under Bit, in a block where one is shown with no unfinished object before it that has no size.
+-- (Such an object gets a size that reaches over what is behind it: the row `swallowed`. On a chip with words it cannot be read any more
+-- once it is deleted, and the block is guarded.)
 unfoldable pub RunSpares : Type 0
 RunSpares =
-    (f : Fuse) (g : Geometry) (s : Both) (b o : ℕ) → o < g .size → Reached g (listing g b (s .image) .visits)
+    (f : Fuse) (g : Geometry) (s : Both) (b o : ℕ) → o < g .size → (g .granularity ≡ Bit → Reached g (listing g b (s .image) .visits))
     → Finished g o (listing g b (s .image) .visits) → byteAt g b o (run f (collect g) s .state) ≡ byteAt g b o s
 
 -- a block in which a finished object is shown and no unfinished one is left whole
