@@ -1,11 +1,10 @@
 -- A format: bytes that are FF, what a reachable block allows, the plan and its stores, and the loop over blocks.
 use mathlib.Core.Path.{_≡_, refl, sym, ap, _∙_}
-use Prim.Native.Nat.{ℕ, zero, suc, _+_, _-_, _*_, _%_, _≤_, _<_}
-use native.Mathlib.Nat.{not-suc-le-zero}
+use Prim.Native.Nat.{ℕ, suc, _+_, _-_, _*_, _%_, _≤_, _<_}
 use native.Mathlib.Numerals.{add-one}
 use native.Mathlib.Omega.{arith}
 use mathlib.Core.Bool.{Bool, true, false, _&&_}
-use mathlib.Core.List.{List, [], _∷_}
+use mathlib.Core.List.{List}
 use lib.ListN.{length, getD, take, drop}
 use lib.Seq.{drop-cons, drop-length}
 use lib.Dec.{leb, ltb, eqb}
@@ -17,7 +16,7 @@ use Rattle.medium.specs.declared.fuse.Fuse.{Fuse}
 use Rattle.medium.specs.Granularity.{pick, widthOf, alignOf, blockHeader}
 use Rattle.medium.specs.Geometry.{geometryOk, admit, checkOf, address}
 use Rattle.medium.specs.Units.{under, blank}
-use Rattle.medium.specs.Operation.{Answer, done, refused, andThen, run, ask, give, test, putting, _>>=_}
+use Rattle.medium.specs.Operation.{Answer, done, refused, andThen, run, ask, putting, _>>=_}
 use Rattle.medium.specs.Medium.{part, readable, writable, erasable, readAt, write, erase}
 use Rattle.medium.proofs.Runs.{run-ask, ask-on, test-on, test-stop}
 use Rattle.medium.proofs.Bytes.{length-erased}

@@ -1,9 +1,9 @@
 -- A block header: where its bytes lie, and what a store of one does.
-use mathlib.Core.Path.{_≡_, refl, sym, ap, _∙_}
-use Prim.Native.Nat.{ℕ, _+_, _*_, _%_, _≤_, _<_}
+use mathlib.Core.Path.{_≡_, refl}
+use Prim.Native.Nat.{ℕ, _+_, _*_, _≤_, _<_}
 use native.Mathlib.Omega.{arith}
-use mathlib.Core.List.{List, [], _∷_}
-use lib.ListN.{length, take}
+use mathlib.Core.List.{List}
+use lib.ListN.{length}
 use lib.Dec.{eqb, ltb, leb}
 use mathlib.Core.Bool.{Bool, true, false, _&&_}
 use borrow.Author.Tests.{eqb-true}
@@ -12,7 +12,7 @@ use Rattle.medium.specs.declared.granularity.Granularity.the-variants.{Bit, Wor
 use Rattle.medium.specs.declared.geometry.Geometry.{Geometry}
 use Rattle.medium.specs.declared.fuse.Fuse.{Fuse}
 use Rattle.medium.specs.declared.fuse.Stored.the-variants.{Refused}
-use Rattle.medium.specs.Granularity.{pick, widthOf, alignOf, blockHeader, typeAt, layoutBit}
+use Rattle.medium.specs.Granularity.{pick, typeAt, layoutBit}
 use Rattle.medium.specs.Geometry.{geometryOk, admit, checkOf, address}
 use Rattle.medium.specs.Operation.{Answer, done, refused, andThen, run, ended}
 use Rattle.medium.specs.Medium.{part, readable, writable, readAt, write}

@@ -1,7 +1,7 @@
 -- A scan: the last written byte, and what each step of a listing leaves to be listed.
-use mathlib.Core.Path.{_≡_, refl, sym, ap, _∙_}
+use mathlib.Core.Path.{_≡_, refl, ap, _∙_}
 use Prim.Native.Nat.{ℕ, zero, suc, _+_, _-_, _*_, _≤_, _<_}
-use native.Mathlib.Nat.{le-of-suc-le-suc, not-suc-le-zero, zero-add, add-assoc}
+use native.Mathlib.Nat.{le-of-suc-le-suc, not-suc-le-zero, add-assoc}
 use native.Mathlib.Omega.{arith}
 use mathlib.Core.Bool.{Bool, true, false, not}
 use mathlib.Core.List.{List, [], _∷_}
@@ -10,10 +10,10 @@ use lib.Dec.{leb, eqb}
 use borrow.Author.Tests.{eq-eqb, ne-eqb}
 use Rattle.medium.specs.declared.granularity.Granularity.{Granularity}
 use Rattle.medium.specs.declared.geometry.Geometry.{Geometry}
-use Rattle.medium.specs.Granularity.{pick, widthOf, header}
-use Rattle.medium.specs.Geometry.{geometryOk, checkOf, address}
-use Rattle.medium.specs.Operation.{Answer, done, refused, andThen, orRefuse}
-use Rattle.medium.specs.Medium.{part, erasable}
+use Rattle.medium.specs.Granularity.{pick, widthOf}
+use Rattle.medium.specs.Geometry.{geometryOk, checkOf}
+use Rattle.medium.specs.Operation.{done, refused}
+use Rattle.medium.specs.Medium.{erasable}
 use Rattle.medium.proofs.Bytes.{fits-up}
 use Rattle.medium.proofs.Places.{width-is}
 use Rattle.medium.proofs.Checks.{fine-of-check}
@@ -24,11 +24,10 @@ use Rattle.objects.specs.declared.iterator.Next.the-variants as next
 use Rattle.objects.specs.Info.{totalOf, spanOf}
 use Rattle.objects.specs.Listing.{nextOf, Listing, listBy, listFrom}
 use Rattle.objects.proofs.Answers.{or-on, then-on}
-use Rattle.objects.proofs.Listing.{unroll, next-found}
+use Rattle.objects.proofs.Listing.{unroll}
 use Rattle.blocks.specs.declared.header.BlockHeaderKind.{BlockHeaderKind}
 use Rattle.blocks.specs.declared.header.BlockHeader.{BlockHeader}
-use Rattle.blocks.specs.declared.record.BlockInfo.{BlockInfo}
-use Rattle.blocks.specs.Scan.{behindWritten, writtenIn, recordOf, scanUnknown, isAllocated, lastAllocated, listed, isFreeable, freeableIn, freeable, scanBy, scanBlock}
+use Rattle.blocks.specs.Scan.{behindWritten, writtenIn, recordOf, scanUnknown, isAllocated, listed, isFreeable, freeableIn, freeable, scanBy, scanBlock}
 use Rattle.blocks.specs.BlockHeader.{blockHeaderAt}
 use Rattle.blocks.proofs.Formats.{read-reached, read-unreached}
 

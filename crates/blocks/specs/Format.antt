@@ -19,7 +19,7 @@ use Rattle.blocks.specs.declared.format.Emptiness.{Emptiness}
 use Rattle.blocks.specs.declared.format.Emptiness.the-variants as emptiness
 use Rattle.blocks.specs.declared.format.Plan.{Plan}
 use Rattle.blocks.specs.declared.format.Plan.the-variants as plan
-use Rattle.blocks.specs.BlockHeader.{typeByte, isEmpty, writeHeader, blockHeaderAt}
+use Rattle.blocks.specs.BlockHeader.{typeByte, writeHeader, blockHeaderAt}
 
 -- ---- is there anything behind the header?
 

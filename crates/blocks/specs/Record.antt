@@ -13,8 +13,6 @@ use Rattle.blocks.specs.declared.header.BlockHeaderKind.{BlockHeaderKind
 use Rattle.blocks.specs.declared.header.BlockHeaderKind.the-variants.{Empty, Unknown, Known}
 use Rattle.blocks.specs.declared.header.KindRead.{KindRead}
 use Rattle.blocks.specs.declared.header.KindRead.the-variants as kinds
-use Rattle.blocks.specs.declared.header.BlockHeader.{BlockHeader}
-use Rattle.blocks.specs.declared.format.Emptiness.{Emptiness}
 use Rattle.blocks.specs.declared.record.BlockInfo.{BlockInfo}
 use Rattle.blocks.specs.declared.record.BlockInfoRead.{BlockInfoRead}
 use Rattle.blocks.specs.declared.record.BlockInfoRead.the-variants as read

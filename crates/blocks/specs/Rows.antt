@@ -1,8 +1,8 @@
 -- Rows 9 and 10 of the bench, and what a format leaves at each of its branches.
 use mathlib.Core.Bool.{Bool, true, false, _&&_}
 use mathlib.Core.List.{List, [], _∷_, _++_}
-use Prim.Native.Nat.{ℕ, zero, suc, _+_, _*_, _-_}
-use lib.ListN.{length, take, drop, getD, replicate}
+use Prim.Native.Nat.{ℕ, _+_, _-_}
+use lib.ListN.{length, replicate}
 use lib.Dec.{eqb, T}
 use Rattle.medium.specs.declared.granularity.Granularity.{Granularity}
 use Rattle.medium.specs.declared.granularity.Granularity.the-variants.{Bit, Word1, Word4}
@@ -10,14 +10,13 @@ use Rattle.medium.specs.declared.geometry.Geometry.{Geometry}
 use Rattle.medium.specs.declared.fuse.Fuse.{Fuse}
 use Rattle.medium.specs.declared.fuse.Fuse.the-variants.{Absent, Units}
 use Rattle.medium.specs.Geometry.{geometryOk, admit}
-use Rattle.medium.specs.Operation.{Answer, done, refused, Op, _>>=_, ask, test, putting, End, run, numberOf}
+use Rattle.medium.specs.Operation.{Answer, done, refused, Op, _>>=_, ask, test, putting, run, numberOf}
 use Rattle.medium.specs.Medium.{readable, writable, erasable, readAt, write, erase}
 use Rattle.objects.specs.Types.{typeOf, markOf, pairOf, marksOf, stateIn}
 use Rattle.objects.specs.Header.{stateAt, sizedAt, headerAt, payloadOf}
 use Rattle.objects.specs.Info.{infoAt, totalOf}
 use Rattle.objects.specs.Listing.{nextOf, listFrom, listing}
-use Rattle.blocks.specs.declared.header.BlockType.the-variants.{Metadata, Data, Undefined}
-use Rattle.blocks.specs.declared.header.BlockHeaderKind.the-variants.{Empty, Unknown, Known}
+use Rattle.blocks.specs.declared.header.BlockType.the-variants.{Metadata}
 use Rattle.blocks.specs.declared.header.BlockHeader.{BlockHeader}
 use Rattle.blocks.specs.declared.record.BlockInfo.{BlockInfo}
 use Rattle.blocks.specs.BlockHeader.{kindNumber, headerBytes, writeHeader, padded, marked, blank, kindOfType, namedKind, kindIn, blockHeaderAt}

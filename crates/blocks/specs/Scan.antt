@@ -2,7 +2,7 @@
 -- its listing. Used bytes, allow mark and freeable space are read off the one definition of a listing.
 use Prim.Native.Nat.{ℕ, zero, suc, _+_, _-_}
 use mathlib.Core.List.{List, [], _∷_}
-use mathlib.Core.Bool.{Bool, true, false, not, _||_}
+use mathlib.Core.Bool.{Bool, false, not, _||_}
 use lib.ListN.{length}
 use lib.Dec.{leb, eqb}
 use Rattle.medium.specs.declared.granularity.Granularity.{Granularity}

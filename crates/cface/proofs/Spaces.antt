@@ -7,7 +7,7 @@ use lib.Dec.{leb}
 use Rattle.medium.specs.declared.geometry.Geometry.{Geometry}
 use Rattle.medium.specs.Granularity.{pick}
 use Rattle.medium.specs.Geometry.{fitOf}
-use Rattle.medium.specs.Operation.{Answer, done, refused, andThen, orRefuse}
+use Rattle.medium.specs.Operation.{done, refused, andThen, orRefuse}
 use Rattle.blocks.specs.declared.record.BlockInfo.{BlockInfo}
 use Rattle.blocks.specs.Record.{freeSpace}
 

@@ -9,7 +9,6 @@ use lib.Dec.{leb, eqb}
 use borrow.Author.Tests.{ne-eqb}
 use Rattle.medium.specs.declared.granularity.Granularity.the-variants.{Bit, Word1, Word4}
 use Rattle.medium.specs.declared.granularity.GranularityRead.the-variants as granularity
-use Rattle.medium.specs.declared.geometry.Geometry.{Geometry}
 use Rattle.medium.specs.declared.fuse.Stored.{Stored}
 use Rattle.medium.specs.Granularity.{pick, granularityOf}
 use Rattle.medium.specs.Geometry.{geometryOk, checkOf, admit}

@@ -1,7 +1,7 @@
 // The C interface: what a C or Rust program calls. include/stumpchoir.h has the same functions for people.
 //
 // A geometry comes in as five numbers, a fuse as a flag and a count of units. Every function answers one of 01's numbers, and none
-// has a condition that its caller must keep. A refused call leaves every out value as it was.
+// has a condition that its caller must keep. A refused call leaves every out value as it was; only a writer that goes in is spent by 8.
 //
 // Always true: 6 comes first, also for a granularity byte that names none; without a fuse the units are neither read nor written.
 pub mod block_calls;

@@ -1,11 +1,9 @@
 -- The second and third pass: what a listing tells of a block, and what is done to it.
-use mathlib.Core.Path.{_≡_, refl, sym, ap, _∙_}
+use mathlib.Core.Path.{_≡_, sym, ap, _∙_}
 use mathlib.Core.Bool.{Bool, true, false}
 use mathlib.Core.List.{List}
-use Prim.Native.Nat.{ℕ, _+_, _-_, _*_, _≤_, _<_}
-use native.Mathlib.Omega.{arith}
+use Prim.Native.Nat.{ℕ, _-_, _≤_, _<_}
 use lib.ListN.{length}
-use lib.Dec.{leb, eqb}
 use borrow.Author.Tests.{eq-eqb, ne-eqb, le-leb, lt-leb}
 use Rattle.medium.specs.declared.geometry.Geometry.{Geometry}
 use Rattle.medium.specs.declared.fuse.Fuse.{Fuse}
@@ -13,7 +11,7 @@ use Rattle.medium.specs.declared.fuse.Stored.{Stored}
 use Rattle.medium.specs.declared.fuse.Stored.the-variants.{Done, Refused}
 use Rattle.medium.specs.Granularity.{pick, header}
 use Rattle.medium.specs.Geometry.{checkOf}
-use Rattle.medium.specs.Operation.{Answer, done, refused, run, endedBy, ended, ask, give, _>>=_}
+use Rattle.medium.specs.Operation.{Answer, done, refused, run, ended, ask, give, _>>=_}
 use Rattle.medium.proofs.Runs.{run-ask, run-ask-in, ask-on, ask-stop}
 use Rattle.objects.specs.declared.header.ObjectHeader.{ObjectHeader}
 use Rattle.objects.specs.declared.iterator.ObjectIterator.{ObjectIterator}
@@ -29,7 +27,7 @@ use Rattle.blocks.specs.Format.{planAt, formatBlock}
 use Rattle.blocks.specs.Record.{erasedRecord}
 use Rattle.blocks.proofs.Formats.{format-refused, format-kept, format-labelled, format-renewed}
 use Rattle.blocks.proofs.Scans.{list-by}
-use Rattle.collector.specs.Table.{Both, both, gc, Pass, onImage, putRecord, storing}
+use Rattle.collector.specs.Table.{Both, both, gc, putRecord, storing}
 use Rattle.collector.specs.Passes.{wornBy, wornOut, formatting, renewing, erasingBy, erasing, acting, lastIn, unfinishedIn, deletedIn, eraseInvalidFinishedBlock, eraseFullFinishedBlock}
 use Rattle.collector.proofs.Lifting.{image-on, image-stop, lifted, run-storing}
 

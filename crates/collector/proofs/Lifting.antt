@@ -2,20 +2,20 @@
 use mathlib.Core.Path.{_≡_, refl, sym, ap, _∙_}
 use mathlib.Core.Bool.{Bool, true, false}
 use mathlib.Core.List.{List, [], _∷_}
-use Prim.Native.Nat.{ℕ, zero, suc, _+_, _-_, _*_, _≤_}
+use Prim.Native.Nat.{ℕ, zero, suc, _+_, _-_, _*_}
 use native.Mathlib.Nat.{sub-zero}
 use native.Mathlib.Omega.{arith}
-use lib.ListN.{length, set}
+use lib.ListN.{set}
 use lib.Dec.{leb}
 use Rattle.medium.specs.declared.fuse.Fuse.{Fuse}
 use Rattle.medium.specs.declared.fuse.Fuse.the-variants.{Absent, Units}
 use Rattle.medium.specs.declared.fuse.Stored.{Stored}
 use Rattle.medium.specs.declared.fuse.Stored.the-variants.{Done, Refused}
 use Rattle.medium.specs.Units.{FlashUnit, step}
-use Rattle.medium.specs.Operation.{flash, happen, cost, prefix, Answer, done, refused, Run, Op, _>>=_, putting, End, EndIn, cutBy, cut, run, endedBy}
+use Rattle.medium.specs.Operation.{flash, happen, cost, prefix, done, refused, Run, Op, _>>=_, putting, End, EndIn, cutBy, cut, run, endedBy}
 use Rattle.medium.proofs.Runs.{leb-yes, on, stop}
 use Rattle.blocks.specs.declared.record.BlockInfo.{BlockInfo}
-use Rattle.collector.specs.Table.{Event, unit, field, Both, both, gc, Pass, units, onImage, putRecord, storing, allowing}
+use Rattle.collector.specs.Table.{Event, unit, Both, both, gc, Pass, units, onImage, putRecord, storing, allowing}
 
 -- ---- lifting
 

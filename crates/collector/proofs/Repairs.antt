@@ -2,16 +2,16 @@
 use mathlib.Core.Path.{_≡_, refl, sym, ap, _∙_}
 use mathlib.Core.Bool.{Bool, true, false}
 use mathlib.Core.List.{List}
-use Prim.Native.Nat.{ℕ, zero, suc, _+_, _*_, _≤_, _<_}
+use Prim.Native.Nat.{ℕ, zero, suc, _+_, _*_, _≤_}
 use native.Mathlib.Omega.{arith}
 use lib.ListN.{length, set}
 use Rattle.medium.specs.declared.geometry.Geometry.{Geometry}
 use Rattle.medium.specs.declared.fuse.Fuse.{Fuse}
 use Rattle.medium.specs.declared.fuse.Stored.{Stored}
 use Rattle.medium.specs.declared.fuse.Stored.the-variants.{Done, Refused}
-use Rattle.medium.specs.Granularity.{pick, header}
+use Rattle.medium.specs.Granularity.{header}
 use Rattle.medium.specs.Geometry.{checkOf}
-use Rattle.medium.specs.Operation.{done, refused, orRefuse, EndIn, run, endedBy, ask, give, _>>=_}
+use Rattle.medium.specs.Operation.{done, refused, EndIn, run, endedBy, give}
 use Rattle.medium.proofs.Runs.{run-ask-in, on, stop, ask-on}
 use Rattle.objects.specs.declared.header.ObjectHeader.{ObjectHeader}
 use Rattle.objects.specs.declared.iterator.ObjectIterator.{ObjectIterator}
@@ -23,7 +23,7 @@ use Rattle.objects.proofs.Listing.{next-moves, next-end, header-some}
 use Rattle.blocks.specs.declared.header.BlockHeaderKind.{BlockHeaderKind}
 use Rattle.blocks.specs.declared.record.BlockInfo.{BlockInfo}
 use Rattle.blocks.specs.Scan.{isAllocated}
-use Rattle.collector.specs.Table.{Both, both, gc, Pass, onImage, allowing}
+use Rattle.collector.specs.Table.{Both, both, gc}
 use Rattle.collector.specs.Passes.{repairing, repaired, visitOne, goOn, visiting, deleting, deleteBy, deleteInvalidObjectsInBlock}
 use Rattle.collector.proofs.Lifting.{image-on, image-stop, allowing-on}
 

@@ -1,16 +1,15 @@
 -- The test of the table, record by record, and what a passed test tells.
-use mathlib.Core.Path.{_≡_, refl, sym, ap, _∙_}
-use mathlib.Core.Bool.{Bool, true, false}
+use mathlib.Core.Path.{_≡_, sym, _∙_}
 use mathlib.Core.List.{List}
-use Prim.Native.Nat.{ℕ, zero, suc, _+_, _-_, _*_, _≤_, _<_}
+use Prim.Native.Nat.{ℕ, suc, _+_, _-_, _*_, _≤_, _<_}
 use native.Mathlib.Omega.{arith}
 use lib.ListN.{length}
 use lib.Dec.{eqb}
 use borrow.Author.Tests.{eq-eqb, ne-eqb, eqb-true}
 use Rattle.medium.specs.declared.geometry.Geometry.{Geometry}
 use Rattle.medium.specs.Granularity.{pick}
-use Rattle.medium.specs.Geometry.{admit, checkOf}
-use Rattle.medium.specs.Operation.{Answer, done, refused, andThen, numberOf}
+use Rattle.medium.specs.Geometry.{checkOf}
+use Rattle.medium.specs.Operation.{Answer, done, refused, numberOf}
 use Rattle.medium.proofs.Checks.{admit-stop, admit-pass, admitted, picked}
 use Rattle.blocks.specs.declared.record.BlockInfo.{BlockInfo}
 use Rattle.blocks.proofs.Headers.{passed}

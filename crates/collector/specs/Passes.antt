@@ -17,7 +17,7 @@ use Rattle.objects.specs.declared.iterator.Next.{Next}
 use Rattle.objects.specs.declared.iterator.Next.the-variants as next
 use Rattle.objects.specs.Types.{rankOf}
 use Rattle.objects.specs.Header.{payloadSizeOf, setPayloadSize, updateState}
-use Rattle.objects.specs.Listing.{startOf, nextOf, Visit, Stop, end, free, broken, Listing, listing}
+use Rattle.objects.specs.Listing.{startOf, nextOf, Visit, Stop, Listing, listing}
 use Rattle.blocks.specs.declared.header.BlockHeaderKind.{BlockHeaderKind}
 use Rattle.blocks.specs.declared.header.BlockHeaderKind.the-variants.{Empty, Unknown, Known}
 use Rattle.blocks.specs.declared.record.BlockInfo.{BlockInfo}
@@ -28,7 +28,7 @@ use Rattle.collector.specs.declared.passes.Finding.{Finding}
 use Rattle.collector.specs.declared.passes.Finding.the-variants as finding
 use Rattle.collector.specs.declared.passes.PassKind.{PassKind}
 use Rattle.collector.specs.declared.passes.PassKind.the-variants as passes
-use Rattle.collector.specs.Table.{Both, gc, Pass, onImage, recordAt, storing, allowing, collectable}
+use Rattle.collector.specs.Table.{Pass, onImage, recordAt, storing, allowing, collectable}
 
 -- ---- the first pass: an unfinished object gets its size from the used bytes and is deleted, or is left where its size says the same
 

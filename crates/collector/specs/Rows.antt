@@ -1,16 +1,16 @@
 -- Row 13 of the bench, the erase count's last value, and what a cut leaves: image and table as the sequence of units and fields has them.
 use mathlib.Core.Bool.{Bool, true, false, _&&_}
 use mathlib.Core.List.{List, [], _∷_, _++_}
-use Prim.Native.Nat.{ℕ, zero, suc, _+_, _*_, _-_}
-use lib.ListN.{length, take, drop, getD, set, replicate}
+use Prim.Native.Nat.{ℕ, _+_, _-_}
+use lib.ListN.{length, replicate}
 use lib.Dec.{eqb, T}
 use Rattle.medium.specs.declared.granularity.Granularity.{Granularity}
-use Rattle.medium.specs.declared.granularity.Granularity.the-variants.{Bit, Word1, Word4}
+use Rattle.medium.specs.declared.granularity.Granularity.the-variants.{Bit, Word1}
 use Rattle.medium.specs.declared.geometry.Geometry.{Geometry}
 use Rattle.medium.specs.declared.fuse.Fuse.{Fuse}
 use Rattle.medium.specs.declared.fuse.Fuse.the-variants.{Absent, Units}
 use Rattle.medium.specs.Geometry.{geometryOk, admit}
-use Rattle.medium.specs.Operation.{Answer, done, refused, _>>=_, ask, test, putting, EndIn, run, numberOf}
+use Rattle.medium.specs.Operation.{Answer, done, refused, _>>=_, ask, test, putting, run, numberOf}
 use Rattle.medium.specs.Medium.{readable, writable, erasable, readAt, write, erase}
 use Rattle.objects.specs.Types.{typeOf, markOf, pairOf, marksOf, stateIn}
 use Rattle.objects.specs.Header.{stateAt, sizedAt, headerAt, payloadSizeOf, payloadOf, marking, setState, staying, updateState, sizableOf, setPayloadSize}
@@ -22,7 +22,7 @@ use Rattle.blocks.specs.Format.{dataEmptyAt, again, planKnown, planOf, planAt, 
 use Rattle.blocks.specs.Format as format
 use Rattle.blocks.specs.Record.{kindOf, infoOf}
 use Rattle.blocks.specs.Scan.{scanUnknown, scanBlock}
-use Rattle.collector.specs.Table.{Both, both, Pass, onImage, recordAt, storing, allowing, possibleFrom, collectable}
+use Rattle.collector.specs.Table.{both, Pass, onImage, recordAt, storing, allowing, possibleFrom, collectable}
 use Rattle.collector.specs.Passes.{repairBy, repairing, repaired, visitOne, deleting, deleteInvalidObjectsInBlock, wornOut, formatting, renewing, erasing, eraseInvalidFinishedBlock, eraseFullFinishedBlock, blockStep, sweep, pass, deleteInvalidObjects, eraseInvalidFinishedBlocks, eraseFullFinishedBlocks, collect}
 
 abbrev same : List ℕ → List ℕ → Bool

@@ -10,7 +10,7 @@ use Rattle.medium.specs.declared.geometry.Geometry.{Geometry}
 use Rattle.medium.specs.Granularity.{pick}
 use Rattle.medium.specs.Geometry.{admit}
 use Rattle.medium.specs.Units.{FlashUnit, step}
-use Rattle.medium.specs.Operation.{World, Answer, done, refused, andThen, numberOf, OpIn, Op, putting}
+use Rattle.medium.specs.Operation.{World, Answer, done, andThen, numberOf, OpIn, Op, putting}
 use Rattle.blocks.specs.declared.record.BlockInfo.{BlockInfo}
 use Rattle.blocks.specs.BlockHeader.{kindNumber}
 use Rattle.blocks.specs.Record.{allowNumber, infoOf}

@@ -16,7 +16,7 @@ use Rattle.medium.proofs.Runs.{ask-on, ask-stop}
 use Rattle.medium.proofs.Checks.{Sound, fit-sound}
 use Rattle.crossing.specs.declared.call.GeometryRead.{GeometryRead}
 use Rattle.crossing.specs.declared.call.GeometryRead.the-variants as geometry
-use Rattle.crossing.specs.Crossing.{geometryOf, geometryAlone, geometryAnswer, geometryNumber, fuseOf, under, Crossing, crossed, crossing, unitsLeft, unitsAfter, kept, CrossingWith, crossedWith, crossingWith}
+use Rattle.crossing.specs.Crossing.{geometryOf, geometryAlone, geometryAnswer, geometryNumber, fuseOf, under, crossed, crossing, unitsLeft, unitsAfter, kept, crossedWith, crossingWith}
 
 -- the geometry came in, or its byte names none
 module _ (a : Answer Geometry) (t : GeometryRead) (e : geometryAnswer t ≡ a) where

@@ -6,7 +6,7 @@ use Rattle.medium.specs.declared.fuse.Stored.{Stored}
 use Rattle.medium.specs.declared.fuse.Stored.the-variants.{Done, Refused}
 use Rattle.medium.specs.Fuse.{storedNumber}
 use Rattle.medium.specs.Operation.{EndIn, refused, endedBy}
-use Rattle.crossing.specs.Crossing.{fuseOf, Crossing, crossed, crossing, unitsAfter, CrossingWith, crossingWith}
+use Rattle.crossing.specs.Crossing.{fuseOf, crossed, crossing, unitsAfter, CrossingWith, crossingWith}
 use Rattle.crossing.proofs.Crossings.{with-stop}
 
 module _ {S A : Type 0} (e : EndIn S A) (u : ℕ) where

@@ -3,7 +3,7 @@
 use Prim.Native.Nat.{ℕ}
 use mathlib.Core.List.{List, [], _∷_, _++_}
 use lib.ListN.{getD}
-use lib.Dec.{leb, eqb}
+use lib.Dec.{eqb}
 use Rattle.medium.specs.Granularity.{pick}
 use Rattle.medium.specs.Operation.{Answer, done, refused, andThen, orRefuse, numberOf}
 use Rattle.objects.specs.declared.types.ObjectType.{ObjectType}

@@ -6,7 +6,7 @@ use Rattle.medium.specs.declared.geometry.Geometry.{Geometry}
 use Rattle.medium.specs.declared.fuse.Stored.{Stored}
 use Rattle.medium.specs.declared.fuse.Stored.the-variants as stored
 use Rattle.medium.specs.Fuse.{storedNumber}
-use Rattle.medium.specs.Operation.{Answer, done, refused, End, endedBy, numberOf}
+use Rattle.medium.specs.Operation.{End, endedBy, numberOf}
 use Rattle.objects.specs.declared.location.ObjectLocation.{ObjectLocation}
 use Rattle.objects.specs.declared.info.InfoRead.{InfoRead}
 use Rattle.objects.specs.declared.info.InfoRead.the-variants as seen

@@ -1,19 +1,19 @@
 -- A payload that can be read is a part of the image.
 use native.Mathlib.Omega.{arith}
 use Prim.Native.Nat.{ℕ, _+_, _*_, _^_, _≤_, _<_}
-use mathlib.Core.Path.{_≡_, refl, sym, _∙_, ap}
-use mathlib.Core.Bool.{Bool, true, false}
+use mathlib.Core.Path.{_≡_, sym, _∙_}
+use mathlib.Core.Bool.{false}
 use mathlib.Core.List.{List}
-use lib.ListN.{length, take, drop}
+use lib.ListN.{length}
 use borrow.Author.Tests.{eq-eqb, ne-eqb}
 use Rattle.medium.specs.declared.geometry.Geometry.{Geometry}
 use Rattle.medium.specs.Geometry.{address}
-use Rattle.medium.specs.Operation.{Answer, done, refused}
-use Rattle.medium.specs.Medium.{part, readable, readAt}
+use Rattle.medium.specs.Operation.{done, refused}
+use Rattle.medium.specs.Medium.{part, readAt}
 use Rattle.medium.proofs.Checks.{read-at}
 use Rattle.objects.specs.declared.header.ObjectHeader.{ObjectHeader}
 use Rattle.objects.specs.Header.{payloadOf}
-use Rattle.cuts.specs.Agree.{equal, payloadAt, payloadReadable, payloadIn, sameBytes, samePayload}
+use Rattle.cuts.specs.Agree.{equal, payloadAt, payloadReadable, payloadIn, samePayload}
 
 module _ (g : Geometry) (h : ObjectHeader) (img : List ℕ) (r : ℕ) (e : r ≡ payloadReadable g h (length img)) where
   pub read : r ≡ 0 → payloadIn g h img ≡ done (part (address g (h .location .block) (payloadAt g h)) (payloadOf (g .s) h) img)

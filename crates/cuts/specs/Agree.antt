@@ -2,7 +2,6 @@
 use Prim.Native.Nat.{ℕ, _+_}
 use mathlib.Core.List.{List, [], _∷_}
 use mathlib.Core.Bool.{Bool, true, false, _&&_}
-use lib.ListN.{length}
 use lib.Dec.{eqb}
 use Rattle.medium.specs.declared.geometry.Geometry.{Geometry}
 use Rattle.medium.specs.Granularity.{header}

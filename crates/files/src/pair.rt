@@ -3,7 +3,6 @@ use crate::whole;
 use crate::whole::FileRead;
 use medium::geometry::Geometry;
 use record::GeometryRead;
-ghost use mathlib.Core.Path.{_≡_};
 ghost use lib.ListN.{length};
 ghost use Rattle.files.specs.Files.{LoadedFits};
 

@@ -1,6 +1,4 @@
 // A file, from its start to its end.
-ghost use mathlib.Core.Path.{_≡_};
-ghost use Prim.Native.Nat.{_≤_};
 ghost use lib.ListN.{length};
 ghost use Rattle.files.specs.Files.{PieceFits, FileFits};
 

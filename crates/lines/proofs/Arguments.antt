@@ -1,17 +1,14 @@
 -- Reading a decimal argument, a digit a step.
 use native.Mathlib.Omega.{arith}
-use Prim.Native.Nat.{ℕ, zero, suc, _+_, _-_, _*_, _≤_, _<_}
-use mathlib.Core.Path.{_≡_, refl, sym, _∙_, ap}
-use mathlib.Core.Bool.{Bool, true, false, _&&_, and-false}
+use Prim.Native.Nat.{ℕ, zero, suc, _+_, _-_, _≤_, _<_}
+use mathlib.Core.Path.{_≡_, refl, _∙_}
 use mathlib.Core.List.{List, [], _∷_}
 use native.Mathlib.Numerals.{add-one}
 use lib.ListN.{length, drop, getD}
 use lib.Seq.{drop-cons}
-use lib.Dec.{leb}
 use borrow.Author.Tests.{le-leb, lt-leb}
-use Rattle.lines.specs.declared.argument.NumberRead.{NumberRead}
 use Rattle.lines.specs.declared.argument.NumberRead.the-variants.{Got, Refused}
-use Rattle.lines.specs.Argument.{withDigit, accepted, numberFrom, numberOf}
+use Rattle.lines.specs.Argument.{withDigit, numberFrom, numberOf}
 
 -- with no digit
 pub none : (s : List ℕ) → length s ≡ 0 → numberOf s ≡ Refused

@@ -1,8 +1,7 @@
 -- The three lines of 01's example, and one of a cut map, computed from the definitions that the contracts cite.
-use Prim.Native.Nat.{ℕ}
 use mathlib.Core.Path.{_≡_, refl}
-use mathlib.Core.List.{List, [], _∷_}
-use mathlib.Core.Bool.{Bool, true, false}
+use mathlib.Core.List.{[], _∷_}
+use mathlib.Core.Bool.{true, false}
 use Rattle.objects.specs.declared.types.ObjectType.the-variants.{FileData}
 use Rattle.objects.specs.declared.state.ObjectDataState.the-variants.{Untrusted, Valid}
 use Rattle.objects.specs.declared.state.CompositeObjectState.the-variants as comp

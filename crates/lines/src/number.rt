@@ -1,6 +1,5 @@
 // A number in decimal.
 ghost use Prim.Native.Nat.{_+_, _≤_, _<_};
-ghost use mathlib.Core.List.{_∷_};
 ghost use lib.ListN.{length};
 ghost use Rattle.lines.specs.Digits.{digits};
 ghost use Rattle.lines.specs.Put.{Put};

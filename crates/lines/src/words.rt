@@ -5,8 +5,6 @@ use objects::state::CompositeObjectState;
 use objects::state::ObjectState;
 use objects::types::ObjectType;
 ghost use Prim.Native.Nat.{_+_, _≤_};
-ghost use mathlib.Core.Path.{_≡_};
-ghost use mathlib.Core.List.{_++_};
 ghost use lib.ListN.{length};
 ghost use Rattle.lines.specs.Put.{Put};
 ghost use Rattle.lines.specs.Words.{field, typeWord, typeOf, stateWord, sizeText, yesNo};

@@ -3,28 +3,26 @@ use mathlib.Core.Path.{_≡_, refl, sym, ap, _∙_}
 use Prim.Native.Nat.{ℕ, zero, suc, _+_, _≤_, _<_}
 use native.Mathlib.Omega.{arith}
 use mathlib.Core.Bool.{Bool, true, false}
-use mathlib.Core.List.{List, [], _∷_}
+use mathlib.Core.List.{List}
 use lib.ListN.{length}
-use lib.Dec.{leb, eqb}
+use lib.Dec.{leb}
 use borrow.Author.Tests.{leb-false, le-leb}
 use Rattle.medium.specs.declared.granularity.Granularity.{Granularity}
 use Rattle.medium.specs.declared.granularity.Granularity.the-variants.{Bit, Word1, Word4}
 use Rattle.medium.specs.declared.geometry.Geometry.{Geometry}
-use Rattle.medium.specs.Granularity.{pick, widthOf, alignOf, header}
+use Rattle.medium.specs.Granularity.{pick, widthOf, header}
 use Rattle.medium.specs.Geometry.{checkOf}
-use Rattle.medium.specs.Operation.{Answer, done, refused, andThen, orRefuse}
+use Rattle.medium.specs.Operation.{Answer, done, refused, orRefuse}
 use Rattle.medium.proofs.Bytes.{fits-up}
 use Rattle.medium.proofs.Places.{width-is}
-use Rattle.objects.specs.declared.state.CompositeObjectState.{CompositeObjectState}
 use Rattle.objects.specs.declared.state.CompositeObjectState.the-variants as comp
-use Rattle.objects.specs.declared.location.ObjectLocation.{ObjectLocation}
 use Rattle.objects.specs.declared.header.ObjectHeader.{ObjectHeader}
 use Rattle.objects.specs.declared.iterator.ObjectIterator.{ObjectIterator}
 use Rattle.objects.specs.declared.iterator.Next.{Next}
 use Rattle.objects.specs.declared.iterator.Next.the-variants as next
-use Rattle.objects.specs.Header.{payloadOf, stateAt, sizedAt, headerAt}
-use Rattle.objects.specs.Info.{Info, found, none, infoIn, infoAt, totalOf, spanOf}
-use Rattle.objects.specs.Listing.{behind, nextIn, atEnd, nextOf, Listing, stopped, visited, end, listBy, listFrom}
+use Rattle.objects.specs.Header.{payloadOf}
+use Rattle.objects.specs.Info.{Info, found, none, infoAt, totalOf, spanOf}
+use Rattle.objects.specs.Listing.{behind, nextIn, atEnd, nextOf, Listing, visited, listBy, listFrom}
 
 -- a header has at least two bytes
 pub header-some : (k : Granularity) (s : ℕ) → 2 ≤ header k s

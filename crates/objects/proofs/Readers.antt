@@ -1,10 +1,10 @@
 -- A read into the first bytes of a lent buffer.
-use mathlib.Core.Path.{_≡_, refl, sym, ap, _∙_}
+use mathlib.Core.Path.{_≡_, refl}
 use mathlib.Core.List.{List, _++_}
-use Prim.Native.Nat.{ℕ, _+_, _≤_, min}
+use Prim.Native.Nat.{ℕ, _+_, min}
 use lib.ListN.{length, take, drop, take-append-drop}
 use Rattle.medium.specs.declared.geometry.Geometry.{Geometry}
-use Rattle.medium.specs.Operation.{Answer, done, refused}
+use Rattle.medium.specs.Operation.{done, refused}
 use Rattle.medium.specs.Medium.{readAt}
 use Rattle.objects.specs.declared.reader.ObjectReader.{ObjectReader}
 use Rattle.objects.specs.declared.reader.Reading.the-variants as reading

@@ -2,7 +2,7 @@
 use mathlib.Core.Path.{_≡_, refl, sym, ap, _∙_}
 use mathlib.Core.Bool.{Bool, true, false}
 use mathlib.Core.List.{List}
-use Prim.Native.Nat.{ℕ, zero, suc, _+_, _-_, _≤_, _<_}
+use Prim.Native.Nat.{ℕ, zero, suc, _+_, _-_, _≤_}
 use native.Mathlib.Omega.{arith}
 use lib.ListN.{length}
 use lib.Dec.{eqb, leb}
@@ -14,7 +14,7 @@ use Rattle.medium.specs.declared.fuse.Stored.{Stored}
 use Rattle.medium.specs.declared.fuse.Stored.the-variants.{Done, Refused}
 use Rattle.medium.specs.Granularity.{pick, widthOf, sizeAt}
 use Rattle.medium.specs.Geometry.{admit, checkOf, fitOf, address}
-use Rattle.medium.specs.Operation.{Answer, done, refused, andThen, orRefuse, test, give, _>>=_, run, endedBy, unlessStored}
+use Rattle.medium.specs.Operation.{Answer, done, refused, andThen, orRefuse, give, run, endedBy, unlessStored}
 use Rattle.medium.specs.Medium.{part, readable, readAt}
 use Rattle.medium.proofs.Runs.{test-on, test-stop, run-ask}
 use Rattle.medium.proofs.Bytes.{length-part}
@@ -27,7 +27,7 @@ use Rattle.objects.specs.declared.header.ObjectHeader.{ObjectHeader}
 use Rattle.objects.specs.declared.reader.ObjectReader.{ObjectReader}
 use Rattle.objects.specs.Numbers.{number, unsetOf}
 use Rattle.objects.specs.Types.{stateIn, rankIn}
-use Rattle.objects.specs.Location.{locationLength, locationIn, fromBytes}
+use Rattle.objects.specs.Location.{locationLength, fromBytes}
 use Rattle.objects.specs.Header.{stateAt, sizableOf, stayed, stayOf, staying, payloadOf}
 use Rattle.objects.specs.Info.{totalOf, spanOf}
 use Rattle.objects.specs.Reader.{possible, remainingOf}

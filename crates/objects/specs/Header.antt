@@ -10,11 +10,11 @@ use Rattle.medium.specs.declared.fuse.Stored.{Stored}
 use Rattle.medium.specs.declared.fuse.Stored.the-variants as stored
 use Rattle.medium.specs.Granularity.{pick, sizeAt}
 use Rattle.medium.specs.Geometry.{admit, checkOf}
-use Rattle.medium.specs.Operation.{Answer, done, refused, andThen, Op, _>>=_, _>>_, ask, give, refuse, test}
+use Rattle.medium.specs.Operation.{Answer, done, refused, andThen, Op, _>>=_, _>>_, give, refuse, test}
 use Rattle.medium.specs.Medium.{readAt, write}
 use Rattle.objects.specs.declared.types.ObjectType.{ObjectType}
 use Rattle.objects.specs.declared.state.ObjectDataState.{ObjectDataState}
-use Rattle.objects.specs.declared.state.ObjectDataState.the-variants.{Untrusted, Valid, Deleted}
+use Rattle.objects.specs.declared.state.ObjectDataState.the-variants.{Valid, Deleted}
 use Rattle.objects.specs.declared.state.CompositeObjectState.{CompositeObjectState}
 use Rattle.objects.specs.declared.state.CompositeObjectState.the-variants as comp
 use Rattle.objects.specs.declared.state.ObjectState.{ObjectState}

@@ -1,14 +1,13 @@
 -- "Listing starts after the block header and stops when offset plus header is at least the block size." It also stops at a free header, and
 -- an Allocated object with unset size is stepped over by its header only.
-use Prim.Native.Nat.{ℕ, zero, suc, _+_, _≤_, _<_}
+use Prim.Native.Nat.{ℕ, zero, suc, _+_}
 use mathlib.Core.List.{List, [], _∷_}
 use lib.ListN.{length}
 use lib.Dec.{leb}
 use Rattle.medium.specs.declared.geometry.Geometry.{Geometry}
 use Rattle.medium.specs.Granularity.{pick, header, blockHeader}
 use Rattle.medium.specs.Geometry.{checkOf}
-use Rattle.medium.specs.Operation.{Answer, done, refused, andThen, orRefuse}
-use Rattle.objects.specs.declared.location.ObjectLocation.{ObjectLocation}
+use Rattle.medium.specs.Operation.{Answer, done, refused, orRefuse}
 use Rattle.objects.specs.declared.header.ObjectHeader.{ObjectHeader}
 use Rattle.objects.specs.declared.iterator.ObjectIterator.{ObjectIterator}
 use Rattle.objects.specs.declared.iterator.Next.{Next}

@@ -11,7 +11,6 @@ use Rattle.medium.specs.Geometry.{fitOf, checkOf}
 use Rattle.medium.specs.Operation.{Answer, done, refused, andThen, orRefuse}
 use Rattle.medium.specs.Medium.{readAt}
 use Rattle.objects.specs.declared.location.ObjectLocation.{ObjectLocation}
-use Rattle.objects.specs.declared.header.ObjectHeader.{ObjectHeader}
 use Rattle.objects.specs.declared.reader.ObjectReader.{ObjectReader}
 use Rattle.objects.specs.declared.reader.ReaderRead.{ReaderRead}
 use Rattle.objects.specs.declared.reader.ReaderRead.the-variants as read

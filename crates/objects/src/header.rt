@@ -10,10 +10,10 @@ use medium::fuse::Fuse;
 use medium::fuse::Stored;
 use medium::geometry::Geometry;
 ghost use mathlib.Core.Path.{_≡_};
-ghost use Prim.Native.Nat.{ℕ, _+_, _*_, _≤_, _<_};
+ghost use Prim.Native.Nat.{_+_, _≤_, _<_};
 ghost use lib.ListN.{length};
 ghost use Rattle.medium.specs.Operation.{run, endedBy, unlessStored};
-ghost use Rattle.objects.specs.Numbers.{unsetOf, bytes};
+ghost use Rattle.objects.specs.Numbers.{unsetOf};
 ghost use Rattle.objects.specs.Header.{headerAnswer, headerNumber, smallHeader, headerAt, sizedAt, payloadSizeOf, payloadOf, besideOf, setState, stayOf, updateState, withSize, sizableOf, setPayloadSize};
 
 pub struct ObjectHeader {

@@ -5,7 +5,7 @@ use crate::info::InfoRead;
 use crate::location::ObjectLocation;
 use medium::geometry::Geometry;
 ghost use mathlib.Core.Path.{_≡_};
-ghost use Prim.Native.Nat.{_+_, _≤_, _<_};
+ghost use Prim.Native.Nat.{_+_, _<_};
 ghost use Rattle.objects.specs.Listing.{placed, startOf, nextOf};
 
 pub struct ObjectIterator {

@@ -6,7 +6,6 @@ use medium::fuse::Answered;
 use medium::geometry::Counted;
 use medium::geometry::Geometry;
 ghost use mathlib.Core.Path.{_≡_};
-ghost use mathlib.Core.Bool.{Bool};
 ghost use Prim.Native.Nat.{_+_, _≤_, _<_, min};
 ghost use lib.ListN.{length};
 ghost use Rattle.medium.specs.Operation.{counted};

@@ -1,5 +1,5 @@
 -- Made by tools/outcomes. The contract of each public function of cuts allows one outcome.
-use mathlib.Core.Path.{_≡_, sym, ap, _∙_}
+use mathlib.Core.Path.{_≡_, sym, _∙_}
 use denote.Ref.{now}
 use Rattle.outcomes.proofs.One.{One}
 use Rattle.cuts.proofs.moment.move_under.Reads as moment-move-under

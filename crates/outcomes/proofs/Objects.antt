@@ -1,5 +1,5 @@
 -- Made by tools/outcomes. The contract of each public function of objects allows one outcome.
-use mathlib.Core.Path.{_≡_, sym, ap, _∙_}
+use mathlib.Core.Path.{_≡_, sym, _∙_}
 use denote.Ref.{now}
 use Rattle.outcomes.proofs.One.{One}
 use Rattle.outcomes.proofs.Answers.{answered-one, counted-one, headed-one, header-one, heard-one, info-one, location-one, metadata-one, reader-one, state-one}

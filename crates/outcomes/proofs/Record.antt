@@ -1,6 +1,5 @@
 -- Made by tools/outcomes. The contract of each public function of record allows one outcome.
-use mathlib.Core.Path.{_≡_, sym, ap, _∙_}
-use denote.Ref.{now}
+use mathlib.Core.Path.{_≡_, sym, _∙_}
 use Rattle.outcomes.proofs.One.{One}
 use Rattle.record.proofs.GeometryRead.number.Reads as GeometryRead-number
 use Rattle.record.proofs.geometry_of.Reads as geometry-of

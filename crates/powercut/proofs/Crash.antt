@@ -19,7 +19,7 @@ use Rattle.objects.specs.declared.state.CompositeObjectState.the-variants.{Free
 use Rattle.objects.specs.Numbers.{number, bytes, unsetOf}
 use Rattle.objects.specs.Types.{typeByte}
 use Rattle.powercut.specs.Demand.{Clear}
-use Rattle.powercut.specs.Stores.{typeUnits, payUnits, sizeUnits, markUnits, deleteUnits, before, moveUnits}
+use Rattle.powercut.specs.Stores.{typeUnits, payUnits, sizeUnits, markUnits, deleteUnits, before}
 use Rattle.medium.proofs.Runs.{apply-append, leb-is}
 use Rattle.medium.proofs.Bytes.{and-ff, ff-and, program-off, program-at, Misses, All, All-append, All-take, frame, store-miss, store-whole, length-apply, stored, getD-pad, part-is, getD-part, length-padded}
 use Rattle.medium.proofs.Places.{Laid, laid}

@@ -27,7 +27,7 @@ use Rattle.objects.specs.declared.iterator.Next.the-variants as next
 use Rattle.objects.specs.Types.{typeByte}
 use Rattle.objects.specs.Header.{payloadOf}
 use Rattle.objects.specs.Info.{found, none, infoAt, totalOf, spanOf}
-use Rattle.objects.specs.Listing.{placed, nextIn, nextOf, Visit, free, listBy, listFrom, listing}
+use Rattle.objects.specs.Listing.{placed, nextIn, nextOf, Visit, listBy, listFrom, listing}
 use Rattle.writer.specs.Moving.{moveObject}
 use Rattle.powercut.specs.Demand.{Whole, Unfinished, Gone, addressOf, payloadIn, copyOf, Clear, Movable, unitsTo, Framed, Survives, Moved, Demand}
 use Rattle.powercut.specs.Listed.{same, payloadRead, isCopy, countIn, copiesIn, copies, Listable, copiesAfter, copiesBefore, Counted, Listings}

@@ -6,7 +6,7 @@ use native.Mathlib.Omega.{arith}
 use Rattle.medium.specs.declared.granularity.Granularity.{Granularity}
 use Rattle.medium.specs.declared.granularity.Granularity.the-variants.{Bit, Word1, Word4}
 use Rattle.medium.specs.declared.geometry.Geometry.{Geometry}
-use Rattle.medium.specs.Granularity.{widthOf, unitsIn, alignOf, finishAt, deleteAt, sizeAt, header}
+use Rattle.medium.specs.Granularity.{widthOf, unitsIn, alignOf, header}
 use Rattle.medium.specs.Geometry.{limitOf, address}
 use Rattle.medium.proofs.Places.{even-add, quad-even}
 

@@ -27,7 +27,7 @@ use Rattle.objects.specs.Info.{Info, found, none, infoIn, infoAt, totalOf, span
 use Rattle.objects.specs.Types.{rankOf}
 use Rattle.objects.specs.Reader as reader
 use Rattle.objects.specs.Reader.{readerAt, remainingOf, leftOf, readSome}
-use Rattle.objects.specs.Listing.{placed, nextIn, atEnd, nextOf, Visit, end, free, Listing, visited, listBy, listFrom}
+use Rattle.objects.specs.Listing.{placed, nextIn, atEnd, nextOf, Visit, free, Listing, visited, listBy, listFrom}
 use Rattle.powercut.specs.Demand.{readerOf}
 use Rattle.powercut.specs.Listed.{payloadRead, isFinished, isPayload, isCopy, countIn}
 use Rattle.medium.proofs.Runs.{leb-is}

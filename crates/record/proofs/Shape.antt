@@ -3,10 +3,9 @@ use Prim.Native.Nat.{ℕ}
 use mathlib.Core.Path.{_≡_, refl}
 use mathlib.Core.List.{List}
 use mathlib.Core.Bool.{Bool, true, false, _&&_, false≢true}
-use lib.ListN.{length, getD}
-use lib.Dec.{eqb}
+use lib.ListN.{length}
 use borrow.Author.Tests.{eqb-true}
-use Rattle.record.specs.Record.{wordAt, wellFormed}
+use Rattle.record.specs.Record.{wellFormed}
 
 first : (a b : Bool) → (a && b) ≡ true → a ≡ true
 first true b e = refl

@@ -4,10 +4,8 @@ use mathlib.Core.List.{List}
 use mathlib.Core.Bool.{Bool, _&&_}
 use lib.ListN.{length, getD}
 use lib.Dec.{eqb}
-use Rattle.medium.specs.declared.granularity.Granularity.{Granularity}
 use Rattle.medium.specs.declared.granularity.GranularityRead.{GranularityRead}
 use Rattle.medium.specs.declared.granularity.GranularityRead.the-variants as granularity
-use Rattle.medium.specs.declared.geometry.Geometry.{Geometry}
 use Rattle.medium.specs.Granularity.{pick, granularityOf}
 use Rattle.record.specs.declared.GeometryRead.{GeometryRead}
 use Rattle.record.specs.declared.GeometryRead.the-variants as read

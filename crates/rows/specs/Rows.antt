@@ -10,7 +10,7 @@ use Rattle.medium.specs.declared.granularity.Granularity.the-variants.{Bit, Wor
 use Rattle.medium.specs.declared.geometry.Geometry.{Geometry}
 use Rattle.medium.specs.declared.fuse.Fuse.the-variants.{Absent, Units}
 use Rattle.medium.specs.Geometry.{geometryOk, admit, fitOf}
-use Rattle.medium.specs.Operation.{Answer, done, refused, andThen, flash, Run, Op, _>>=_, _>>_, ask, test, putting, give, refuse, run, numberOf}
+use Rattle.medium.specs.Operation.{Answer, done, refused, andThen, flash, Run, Op, _>>=_, _>>_, ask, test, putting, refuse, run, numberOf}
 use Rattle.medium.specs.Medium.{readable, writable, erasable, readAt, write, erase}
 use Rattle.objects.specs.declared.types.ObjectType.the-variants.{FileData}
 use Rattle.objects.specs.declared.state.ObjectDataState.the-variants.{Deleted}

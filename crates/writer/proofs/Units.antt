@@ -12,7 +12,7 @@ use Rattle.medium.specs.declared.geometry.Geometry.{Geometry}
 use Rattle.medium.specs.Granularity.{widthOf, unitsIn, header, sizeAt, finishAt, finishMark}
 use Rattle.medium.specs.Geometry.{address}
 use Rattle.medium.specs.Units.{FlashUnit, unitsOf}
-use Rattle.medium.specs.Operation.{flash, apply, done, refused, Run, _>>=_, ask, give, test}
+use Rattle.medium.specs.Operation.{flash, apply, done, Run, _>>=_, ask, give, test}
 use Rattle.objects.specs.declared.types.ObjectType.{ObjectType}
 use Rattle.objects.specs.declared.state.ObjectDataState.the-variants.{Valid}
 use Rattle.objects.specs.declared.state.CompositeObjectState.the-variants as comp

@@ -1,19 +1,17 @@
 -- Copying: the header is read again and must be a finished object's; 16 bytes a turn, read from the image as it is by then. Moving is copying
 -- and then deleting the original.
-use Prim.Native.Nat.{ℕ, zero, suc, _+_, _-_, _*_, _/_, min}
-use mathlib.Core.List.{List, [], _∷_}
+use Prim.Native.Nat.{ℕ, zero, suc, _+_, _-_, _/_, min}
+use mathlib.Core.List.{List}
 use mathlib.Core.Bool.{false}
 use Rattle.medium.specs.declared.geometry.Geometry.{Geometry}
 use Rattle.medium.specs.Granularity.{header}
 use Rattle.medium.specs.Operation.{Answer, done, refused, andThen, Op, _>>=_, _>>_, ask, give}
 use Rattle.medium.specs.Medium.{readAt}
-use Rattle.objects.specs.declared.types.ObjectType.{ObjectType}
 use Rattle.objects.specs.declared.state.ObjectDataState.the-variants.{Deleted}
 use Rattle.objects.specs.declared.state.CompositeObjectState.{CompositeObjectState}
 use Rattle.objects.specs.declared.state.CompositeObjectState.the-variants as comp
 use Rattle.objects.specs.declared.location.ObjectLocation.{ObjectLocation}
 use Rattle.objects.specs.declared.header.ObjectHeader.{ObjectHeader}
-use Rattle.objects.specs.declared.reader.ObjectReader.{ObjectReader}
 use Rattle.objects.specs.Header.{payloadOf, setState}
 use Rattle.objects.specs.Reader.{readerAt}
 use Rattle.writer.specs.declared.writer.ObjectWriter.{ObjectWriter}

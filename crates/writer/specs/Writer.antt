@@ -1,16 +1,16 @@
 -- "The writer stores type, then payload, then size, then mark. Under Word(4) a tail of up to 3 bytes is held until the word fills or the
 -- object ends." "after 8 [it] is spent: each later write, finish or delete of it gives 4."
-use Prim.Native.Nat.{ℕ, zero, suc, _+_, _-_, _*_, _%_}
+use Prim.Native.Nat.{ℕ, zero, suc, _+_, _-_, _%_}
 use mathlib.Core.List.{List, [], _∷_, _++_}
-use mathlib.Core.Bool.{Bool, true, false, _&&_}
-use lib.ListN.{length, take, drop, replicate}
+use mathlib.Core.Bool.{true, false, _&&_}
+use lib.ListN.{length, take, drop}
 use lib.Dec.{leb, ltb, eqb}
 use Rattle.medium.specs.declared.geometry.Geometry.{Geometry}
 use Rattle.medium.specs.declared.fuse.Stored.{Stored}
 use Rattle.medium.specs.declared.fuse.Stored.the-variants as stored
 use Rattle.medium.specs.Granularity.{pick, widthOf, header}
 use Rattle.medium.specs.Geometry.{admit, fitOf}
-use Rattle.medium.specs.Operation.{Answer, done, refused, andThen, orRefuse, End, Op, _>>=_, _>>_, ask, give, refuse, test}
+use Rattle.medium.specs.Operation.{Answer, done, refused, andThen, orRefuse, End, Op, _>>=_, _>>_, ask, give, test}
 use Rattle.medium.specs.Medium.{write}
 use Rattle.objects.specs.declared.types.ObjectType.{ObjectType}
 use Rattle.objects.specs.declared.state.ObjectDataState.{ObjectDataState}

@@ -1,7 +1,6 @@
-use mathlib.Core.Path.{_≡_, refl, sym, ap, _∙_}
+use mathlib.Core.Path.{sym}
 use native.Mathlib.Omega.{arith}
 use lib.Seq.{length-take-le}
-use lib.ListN.{length-replicate}
 use borrow.Author.Needs.{needs}
 use Rattle.cutmap.proofs.map_object.Statement.{statement}
 use Rattle.cutmap.proofs.map_object.Tie as tie

@@ -1,6 +1,5 @@
 -- Each turn has one more unit, the end does not go up, and the working copy stays as long as the image.
 use borrow.Author.Needs.{needs}
-use native.Mathlib.Omega.{arith}
 use mathlib.Core.Path.{_≡_}
 use Prim.Native.Nat.{_-_, _≤_}
 use lib.ListN.{length}

@@ -1,9 +1,9 @@
 -- `medium::read` meets its contract.
-use mathlib.Core.Path.{_≡_, refl, sym, _∙_}
+use mathlib.Core.Path.{_≡_, refl}
 use Prim.Native.Nat.{_+_, _-_, _*_}
 use lib.ListN.{length}
 use native.Mathlib.Omega.{arith}
-use borrow.Author.Tests.{eq-eqb, ne-eqb}
+use borrow.Author.Tests.{ne-eqb}
 use Rattle.medium.specs.Medium.{readAt}
 use Rattle.medium.proofs.Checks.{read-at}
 use Rattle.medium.proofs.Stores.{read-done, copied}

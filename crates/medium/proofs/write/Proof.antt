@@ -2,9 +2,7 @@
 use mathlib.Core.Path.{_≡_}
 use Prim.Native.Nat.{_+_, _-_, _*_}
 use native.Mathlib.Omega.{arith}
-use borrow.Author.Tests.{ne-eqb}
-use Rattle.medium.specs.Operation.{run}
-use Rattle.medium.specs.Medium.{write, onto}
+use Rattle.medium.specs.Medium.{onto}
 use Rattle.medium.proofs.Places.{width-is}
 use Rattle.medium.proofs.Checks.{write-at}
 use Rattle.medium.proofs.Stores.{write-few, write-part, write-done, put-under, onto-split, write-refused}

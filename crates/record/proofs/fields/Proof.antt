@@ -1,4 +1,3 @@
-use Rattle.record.specs.Record.{fieldsOf}
 use borrow.Author.Needs.{needs}
 use Rattle.record.proofs.fields.Statement.{statement}
 use Rattle.record.proofs.fields.Tie as tie

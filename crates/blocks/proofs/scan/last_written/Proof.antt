@@ -1,8 +1,8 @@
 use Rattle.blocks.proofs.Scans.{written-less, written-here}
-use mathlib.Core.Path.{_≡_, refl, sym, ap, _∙_}
-use Prim.Native.Nat.{suc, _≤_, _<_, _-_}
+use mathlib.Core.Path.{_≡_, sym, ap, _∙_}
+use Prim.Native.Nat.{_≤_, _-_}
 use native.Mathlib.Omega.{arith}
-use lib.ListN.{length, take, getD}
+use lib.ListN.{length, take}
 use lib.Seq.{take-all}
 use Rattle.blocks.specs.Scan.{writtenIn}
 use Rattle.blocks.proofs.scan.last_written.Statement.{statement}

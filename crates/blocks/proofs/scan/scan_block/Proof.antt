@@ -1,5 +1,5 @@
 use Rattle.blocks.proofs.Scans.{scan-by}
-use mathlib.Core.Path.{_≡_, refl, sym, _∙_}
+use mathlib.Core.Path.{sym, _∙_}
 use Rattle.blocks.specs.Scan.{scanBlock}
 use Rattle.blocks.proofs.Headers.{check-of-header}
 use borrow.Author.Needs.{needs}

@@ -1,5 +1,5 @@
 use Rattle.crossing.proofs.Crossings.{question-on, question-stop, heard-kept}
-use mathlib.Core.Path.{refl, _∙_}
+use mathlib.Core.Path.{refl}
 use borrow.Author.Needs.{needs}
 use Rattle.cface.proofs.medium_calls.stumpchoir_read.Statement.{statement}
 use Rattle.cface.proofs.medium_calls.stumpchoir_read.Tie as tie

@@ -1,4 +1,4 @@
-use mathlib.Core.Path.{refl, sym, ap}
+use mathlib.Core.Path.{refl, ap}
 use native.Mathlib.Omega.{arith}
 use Rattle.objects.specs.declared.metadata.MetadataObjectHeader.{MetadataObjectHeader}
 use Rattle.crossing.proofs.Crossings.{question-on, question-stop}

@@ -1,4 +1,4 @@
-use mathlib.Core.Path.{sym, _∙_}
+use mathlib.Core.Path.{sym}
 use Rattle.medium.proofs.Runs.{run-ask-in}
 use Rattle.collector.specs.Table.{gc}
 use Rattle.collector.specs.Passes.{erasing}

@@ -1,4 +1,4 @@
-use mathlib.Core.Path.{_≡_, refl, sym, ap, _∙_}
+use mathlib.Core.Path.{sym, ap, _∙_}
 use Rattle.blocks.specs.Record.{infoAnswer}
 use Rattle.collector.proofs.Sweeps.{block-on, block-stop}
 use borrow.Author.Needs.{needs}

@@ -1,9 +1,8 @@
-use mathlib.Core.Path.{_≡_, refl, sym, ap, _∙_}
-use Prim.Native.Nat.{_≤_, _-_, _*_, _+_}
+use mathlib.Core.Path.{_≡_, refl, sym, _∙_}
+use Prim.Native.Nat.{_≤_, _-_}
 use native.Mathlib.Omega.{arith}
 use borrow.Author.Needs.{needs}
 use lib.ListN.{length}
-use Rattle.medium.specs.Geometry.{checkOf}
 use Rattle.medium.specs.Operation.{run}
 use Rattle.medium.proofs.Runs.{on, stop}
 use Rattle.collector.specs.Table.{both}

@@ -1,4 +1,4 @@
-use mathlib.Core.Path.{_≡_, refl, sym, _∙_}
+use mathlib.Core.Path.{sym}
 use borrow.Author.Tests.{eq-eqb, ne-eqb}
 use Rattle.collector.proofs.Repairs.{visit-skip, visit-stop, visit-deleted, visit-left}
 use borrow.Author.Needs.{needs}

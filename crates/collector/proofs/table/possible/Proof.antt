@@ -1,9 +1,8 @@
 use Rattle.blocks.specs.Record.{infoAnswer}
-use mathlib.Core.Path.{_≡_, refl, sym, ap, _∙_}
+use mathlib.Core.Path.{_≡_, ap, _∙_}
 use Prim.Native.Nat.{_≤_, _-_}
 use native.Mathlib.Omega.{arith}
 use borrow.Author.Needs.{needs}
-use Rattle.medium.specs.Operation.{numberOf}
 use Rattle.collector.specs.Table.{possibleFrom}
 use Rattle.collector.proofs.Tables.{possible-more, possible-stop, possible-end}
 use Rattle.collector.proofs.table.possible.Statement.{statement}

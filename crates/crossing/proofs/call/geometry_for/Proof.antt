@@ -1,4 +1,4 @@
-use mathlib.Core.Path.{sym, _∙_}
+use mathlib.Core.Path.{sym}
 use Rattle.objects.proofs.Answers.{gate-on, gate-stop}
 use Rattle.crossing.specs.Crossing.{geometryFor}
 use borrow.Author.Needs.{needs}

@@ -1,5 +1,4 @@
 use borrow.Author.Tests.{ne-eqb}
-use mathlib.Core.Path.{_∙_}
 use Rattle.crossing.specs.Values.{stateOf}
 use Rattle.crossing.proofs.Types.{type-high}
 use borrow.Author.Needs.{needs}

@@ -1,4 +1,3 @@
-use mathlib.Core.Path.{_≡_, sym, _∙_}
 use Rattle.cuts.specs.Moment.{lookOf}
 use Rattle.cuts.proofs.Looks.{seen-is}
 use borrow.Author.Needs.{needs}

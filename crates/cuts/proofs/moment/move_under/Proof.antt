@@ -1,4 +1,3 @@
-use mathlib.Core.Path.{_≡_, sym, _∙_}
 use Rattle.cuts.proofs.Looks.{number-of, state-of}
 use borrow.Author.Needs.{needs}
 use Rattle.cuts.proofs.moment.move_under.Statement.{statement}

@@ -1,8 +1,7 @@
 use lib.ListN.{length}
 use Prim.Native.Nat.{_^_, _<_}
 use Rattle.cuts.proofs.Payloads.{small}
-use mathlib.Core.Path.{_≡_, sym, _∙_}
-use native.Mathlib.Omega.{arith}
+use mathlib.Core.Path.{sym, _∙_}
 use Rattle.cuts.proofs.Payloads.{inside, first-unread, second-unread, both-read}
 use borrow.Author.Needs.{needs}
 use Rattle.cuts.proofs.payload.same_payload.Statement.{statement}

@@ -1,9 +1,8 @@
-use mathlib.Core.Path.{_≡_, refl, sym, _∙_}
+use mathlib.Core.Path.{sym, _∙_}
 use native.Mathlib.Nat.{mul-le-mul}
 use native.Mathlib.Omega.{arith}
 use mir.Facts.{fits-le, fits-lit}
 use borrow.Author.Tests.{eq-eqb, ne-eqb}
-use Rattle.medium.specs.Geometry.{admit, fitOf}
 use Rattle.medium.proofs.Checks.{fit-sound, fit-stop, fit-room}
 use borrow.Author.Needs.{needs}
 use Rattle.medium.proofs.geometry.check.Statement.{statement}

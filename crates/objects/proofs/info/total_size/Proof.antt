@@ -1,4 +1,4 @@
-use mathlib.Core.Path.{_≡_, sym}
+use mathlib.Core.Path.{sym}
 use Rattle.objects.specs.Info.{totalSize}
 use Rattle.objects.proofs.Answers.{gate-on, gate-stop}
 use borrow.Author.Needs.{needs}

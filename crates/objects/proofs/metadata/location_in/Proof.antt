@@ -1,4 +1,4 @@
-use mathlib.Core.Path.{_≡_, sym, _∙_}
+use mathlib.Core.Path.{sym, _∙_}
 use Rattle.objects.specs.Metadata.{locationAt}
 use Rattle.objects.proofs.Reading.{located}
 use borrow.Author.Needs.{needs}

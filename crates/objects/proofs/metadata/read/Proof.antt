@@ -1,4 +1,4 @@
-use mathlib.Core.Path.{_≡_, sym}
+use mathlib.Core.Path.{sym}
 use Rattle.objects.specs.Metadata.{readMetadata}
 use Rattle.objects.proofs.Reading.{fine-of-number}
 use borrow.Author.Needs.{needs}

@@ -1,4 +1,4 @@
-use mathlib.Core.Path.{_≡_, refl, sym, ap, _∙_}
+use mathlib.Core.Path.{sym}
 use Rattle.medium.proofs.Checks.{fine-of-read}
 use Rattle.blocks.specs.BlockHeader.{blockHeaderAt}
 use borrow.Author.Needs.{needs}

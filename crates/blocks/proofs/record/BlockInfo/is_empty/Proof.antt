@@ -1,4 +1,3 @@
-use native.Mathlib.Omega.{arith}
 use borrow.Author.Tests.{le-leb, lt-leb}
 use Rattle.blocks.specs.Record.{recordEmpty}
 use Rattle.objects.proofs.Answers.{or-on, or-stop}

@@ -1,4 +1,3 @@
-use native.Mathlib.Omega.{arith}
 use Rattle.blocks.specs.Record.{infoOf}
 use Rattle.blocks.proofs.Records.{allow-is, allow-no}
 use borrow.Author.Needs.{needs}

@@ -1,4 +1,3 @@
-use native.Mathlib.Omega.{arith}
 use borrow.Author.Needs.{needs}
 use Rattle.medium.proofs.granularity.Granularity.object_header.Statement.{statement}
 use Rattle.medium.proofs.granularity.Granularity.object_header.Tie as tie

@@ -1,4 +1,4 @@
-use mathlib.Core.Path.{_≡_, sym, _∙_}
+use mathlib.Core.Path.{sym, _∙_}
 use borrow.Author.Tests.{eq-eqb, ne-eqb}
 use Rattle.medium.proofs.Checks.{admit-pass, admit-stop}
 use Rattle.objects.specs.Header.{sizableOf}

@@ -1,4 +1,3 @@
-use mathlib.Core.Path.{_≡_, refl, sym, _∙_}
 use native.Mathlib.Omega.{arith}
 use Rattle.objects.specs.Header.{sizedAt}
 use Rattle.objects.proofs.Places.{places}

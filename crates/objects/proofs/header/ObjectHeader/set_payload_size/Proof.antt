@@ -1,11 +1,8 @@
-use mathlib.Core.Path.{_≡_, refl, sym, ap, _∙_}
-use Prim.Native.Nat.{_≤_}
+use mathlib.Core.Path.{refl, sym, _∙_}
 use native.Mathlib.Omega.{arith}
-use lib.ListN.{length}
 use lib.Seq.{length-take-le}
 use Rattle.medium.proofs.Runs.{test-on, test-stop, run-ask, on, stop}
-use Rattle.medium.proofs.Checks.{admitted}
-use Rattle.objects.specs.Header.{setPayloadSize, sizableOf}
+use Rattle.objects.specs.Header.{setPayloadSize}
 use Rattle.objects.proofs.Places.{places}
 use Rattle.objects.proofs.Numbers.{bytes-take}
 use Rattle.objects.proofs.Reading.{fine-of-sizable}

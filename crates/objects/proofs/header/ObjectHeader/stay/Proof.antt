@@ -1,4 +1,3 @@
-use mathlib.Core.Path.{_≡_, sym, ap, _∙_}
 use borrow.Author.Tests.{eq-eqb, ne-eqb}
 use Rattle.medium.proofs.Checks.{admit-pass, admit-stop}
 use Rattle.objects.specs.Header.{stayOf}

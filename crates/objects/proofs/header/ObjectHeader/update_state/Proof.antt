@@ -1,4 +1,4 @@
-use mathlib.Core.Path.{_≡_, refl, sym, _∙_}
+use mathlib.Core.Path.{_∙_}
 use Rattle.objects.specs.Header.{updateState}
 use Rattle.objects.proofs.Reading.{stay-run, unless-same}
 use borrow.Author.Needs.{needs}

@@ -1,6 +1,6 @@
 use Rattle.objects.proofs.Numbers.{two-put}
 use Rattle.medium.specs.Operation.{done}
-use mathlib.Core.Path.{_≡_, refl, sym, ap, _∙_}
+use mathlib.Core.Path.{refl, sym, ap, _∙_}
 use Prim.Native.Nat.{_≤_}
 use native.Mathlib.Omega.{arith}
 use lib.ListN.{length}

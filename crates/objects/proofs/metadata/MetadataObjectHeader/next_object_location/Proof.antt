@@ -1,4 +1,4 @@
-use mathlib.Core.Path.{_≡_, sym}
+use mathlib.Core.Path.{sym}
 use borrow.Author.Tests.{lt-leb, le-leb}
 use Rattle.objects.specs.Metadata.{nextLocation, listable, listEnd}
 use Rattle.objects.specs.Header.{payloadSizeOf}

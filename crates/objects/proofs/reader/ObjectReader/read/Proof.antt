@@ -1,7 +1,6 @@
-use Rattle.medium.specs.Operation.{done}
 use Rattle.objects.specs.Reader.{remainingOf}
 use Rattle.objects.proofs.Readers.{read-on, read-stop}
-use mathlib.Core.Path.{_≡_, refl, sym, ap, _∙_}
+use mathlib.Core.Path.{refl, sym}
 use Prim.Native.Nat.{_≤_}
 use native.Mathlib.Omega.{arith}
 use lib.ListN.{length}
