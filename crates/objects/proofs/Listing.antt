@@ -15,7 +15,6 @@ use Rattle.medium.specs.Geometry.{checkOf}
 use Rattle.medium.specs.Operation.{Answer, done, refused, orRefuse}
 use Rattle.medium.proofs.Bytes.{fits-up}
 use Rattle.medium.proofs.Places.{width-is}
-use Rattle.objects.specs.declared.state.CompositeObjectState.the-variants as comp
 use Rattle.objects.specs.declared.header.ObjectHeader.{ObjectHeader}
 use Rattle.objects.specs.declared.iterator.ObjectIterator.{ObjectIterator}
 use Rattle.objects.specs.declared.iterator.Next.{Next}

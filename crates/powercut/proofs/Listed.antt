@@ -23,7 +23,6 @@ use Rattle.objects.specs.declared.state.CompositeObjectState.the-variants.{Free
 use Rattle.objects.specs.declared.location.ObjectLocation.{ObjectLocation}
 use Rattle.objects.specs.declared.header.ObjectHeader.{ObjectHeader}
 use Rattle.objects.specs.declared.iterator.Next.{Next}
-use Rattle.objects.specs.declared.iterator.Next.the-variants as next
 use Rattle.objects.specs.Types.{typeByte}
 use Rattle.objects.specs.Header.{payloadOf}
 use Rattle.objects.specs.Info.{found, none, infoAt, totalOf, spanOf}

@@ -5,64 +5,46 @@ use lib.Seq.{length-take-le}
 use borrow.Author.Needs.{needs}
 use Rattle.cutmap.proofs.map.Statement.{statement}
 use Rattle.cutmap.proofs.map.Tie as tie
-use Rattle.cutmap.proofs.map.Reads as reads
-use Rattle.cutmap.proofs.map.Lts as lts
-use Rattle.cutmap.proofs.map_object.Reads as map-object-reads
-use Rattle.cutmap.proofs.print_refusal.Reads as print-refusal-reads
-use Rattle.files.proofs.load.Reads as load-reads
 
--- src/main.rt:107:30
 slice-aggregate-load : tie.Need-slice-aggregate-load
 slice-aggregate-load c = search needs
 
--- src/main.rt:107:47
 slice-aggregate-load-2 : tie.Need-slice-aggregate-load-2
 slice-aggregate-load-2 c = search needs
 
--- src/main.rt:107:61
 slice-aggregate-load-3 : tie.Need-slice-aggregate-load-3
 slice-aggregate-load-3 c = search needs
 
--- src/main.rt:107:9
 load-requires : tie.Need-load-requires
 load-requires c κs = search needs
 
 enum-told : tie.Need-enum-told
 enum-told c = search needs
 
--- src/main.rt:110:25
 enum-known-loaded : tie.Need-enum-known-loaded
 enum-known-loaded c = search needs
 
--- src/main.rt:110:31
 print-refusal-requires : tie.Need-print-refusal-requires
 print-refusal-requires c κs = search needs
 
--- src/main.rt:111:23
 enum-known-loaded-2 : tie.Need-enum-known-loaded-2
 enum-known-loaded-2 c = search needs
 
--- src/main.rt:111:46
 array-share-prefix-buffer : tie.Need-array-share-prefix-buffer
 array-share-prefix-buffer c = let h = rw (c .before .loaded2 .given .1) at (c .before .before .before .before .load .ensures) in omega (arith, h .0, c .before .before .before .before .load .kept)
 
--- src/main.rt:111:46
 slice-aggregate-map-object : tie.Need-slice-aggregate-map-object
 slice-aggregate-map-object c = let h = rw (c .before .before .loaded2 .given .1) at (c .before .before .before .before .before .load .ensures) in sym (length-take-le _ _ (omega (arith, h .0, c .before .before .before .before .before .load .kept)))
 
--- src/main.rt:111:32
 map-object-requires : tie.Need-map-object-requires
 map-object-requires c κs = let h = rw (c .before .before .loaded2 .given .1) at (c .before .before .before .before .before .load .ensures) in simp length-take (omega (arith, h .0))
 
--- src/main.rt:105:1
 returns : tie.Need-returns
 returns c = search needs
 
--- src/main.rt:105:1
 returns-2 : tie.Need-returns-2
 returns-2 c = search needs
 
--- src/main.rt:105:1
 returns-3 : tie.Need-returns-3
 returns-3 c = search needs
 

@@ -5,12 +5,6 @@ use Prim.Native.Nat.{_-_, _≤_}
 use lib.ListN.{length}
 use Rattle.cutmap.proofs.print_map.Statement.{statement}
 use Rattle.cutmap.proofs.print_map.Tie as tie
-use Rattle.cutmap.proofs.print_map.Reads as reads
-use Rattle.cutmap.proofs.print_map.Lts as lts
-use Rattle.cutmap.proofs.cut.Reads as cut-reads
-use Rattle.cutmap.proofs.end_after.Reads as end-after-reads
-use Rattle.cutmap.proofs.print_twin.Reads as print-twin-reads
-use Rattle.cutmap.proofs.with.Reads as with-reads
 
 abbrev Inv-loop : tie.InvT-loop
 Inv-loop g image work₀ h to twin₀ end₀ fuse₀ work twin end fuse = (length image ≡ length work) × (length work ≡ length work₀) × (end ≤ 65600)
@@ -18,43 +12,33 @@ Inv-loop g image work₀ h to twin₀ end₀ fuse₀ work twin end fuse = (lengt
 abbrev μ-loop : tie.MeasureT-loop
 μ-loop g image work₀ h to twin₀ end₀ fuse₀ work twin end fuse = end - fuse
 
--- src/main.rt:88:5
 loop-holds : tie.Need-loop-holds Inv-loop μ-loop
 loop-holds c = search needs
 
--- src/main.rt:89:13
 cut-requires : tie.Need-cut-requires Inv-loop μ-loop
 cut-requires c κs = search needs
 
--- src/main.rt:91:13
 with-requires : tie.Need-with-requires Inv-loop μ-loop
 with-requires c κs = search needs
 
--- src/main.rt:93:9
 end-after-requires : tie.Need-end-after-requires Inv-loop μ-loop
 end-after-requires c κs = search needs
 
--- src/main.rt:94:9
 add-fuse : tie.Need-add-fuse Inv-loop μ-loop
 add-fuse c = search needs
 
--- src/main.rt:88:5
 loop-less : tie.Need-loop-less Inv-loop μ-loop
 loop-less c = search needs
 
--- src/main.rt:88:5
 loop-again : tie.Need-loop-again Inv-loop μ-loop
 loop-again c = search needs
 
--- src/main.rt:96:5
 print-twin-requires : tie.Need-print-twin-requires Inv-loop μ-loop
 print-twin-requires c κs = search needs
 
--- src/main.rt:82:1
 same-length : tie.Need-same-length Inv-loop μ-loop
 same-length c = search needs
 
--- src/main.rt:82:1
 returns : tie.Need-returns Inv-loop μ-loop
 returns c = search needs
 

@@ -3,9 +3,6 @@ use borrow.Author.Needs.{needs}
 use Prim.Native.Nat.{_-_}
 use Rattle.inspector.proofs.print_image.Statement.{statement}
 use Rattle.inspector.proofs.print_image.Tie as tie
-use Rattle.inspector.proofs.print_image.Reads as reads
-use Rattle.inspector.proofs.print_image.Lts as lts
-use Rattle.inspector.proofs.print_block.Reads as print-block-reads
 
 abbrev Inv-loop : tie.InvT-loop
 Inv-loop g image count block₀ block = Unit {0}
@@ -13,27 +10,21 @@ Inv-loop g image count block₀ block = Unit {0}
 abbrev μ-loop : tie.MeasureT-loop
 μ-loop g image count block₀ block = count - block
 
--- src/main.rt:65:5
 loop-holds : tie.Need-loop-holds Inv-loop μ-loop
 loop-holds c = tt
 
--- src/main.rt:66:9
 print-block-requires : tie.Need-print-block-requires Inv-loop μ-loop
 print-block-requires c κs = search needs
 
--- src/main.rt:67:9
 add-block : tie.Need-add-block Inv-loop μ-loop
 add-block c = search needs
 
--- src/main.rt:65:5
 loop-less : tie.Need-loop-less Inv-loop μ-loop
 loop-less c = search needs
 
--- src/main.rt:65:5
 loop-again : tie.Need-loop-again Inv-loop μ-loop
 loop-again c = tt
 
--- src/main.rt:62:1
 returns : tie.Need-returns Inv-loop μ-loop
 returns c = search needs
 

@@ -5,11 +5,6 @@ use borrow.Author.Needs.{needs}
 use Rattle.objects.proofs.Listing.{next-moves, header-some}
 use Rattle.inspector.proofs.print_objects.Statement.{statement}
 use Rattle.inspector.proofs.print_objects.Tie as tie
-use Rattle.inspector.proofs.print_objects.Reads as reads
-use Rattle.inspector.proofs.print_objects.Lts as lts
-use Rattle.inspector.proofs.print_object.Reads as print-object-reads
-use Rattle.objects.proofs.iterator.ObjectIterator.new.Reads as new-reads
-use Rattle.objects.proofs.iterator.ObjectIterator.next.Reads as next-reads
 
 abbrev Inv-loop : tie.InvT-loop
 Inv-loop g image block i₀ i = Unit {0}
@@ -17,37 +12,29 @@ Inv-loop g image block i₀ i = Unit {0}
 abbrev μ-loop : tie.MeasureT-loop
 μ-loop g image block i₀ i = g .size - i .location .offset
 
--- src/main.rt:31:9
 new-requires : tie.Need-new-requires Inv-loop μ-loop
 new-requires c κs = search needs
 
--- src/main.rt:32:5
 loop-holds : tie.Need-loop-holds Inv-loop μ-loop
 loop-holds c = tt
 
--- src/main.rt:33:13
 next-requires : tie.Need-next-requires Inv-loop μ-loop
 next-requires c κs = search needs
 
--- src/main.rt:34:26
 enum-known-n : tie.Need-enum-known-n Inv-loop μ-loop
 enum-known-n c = search needs
 
--- src/main.rt:35:13
 returns : tie.Need-returns Inv-loop μ-loop
 returns c = search needs
 
--- src/main.rt:37:9
 print-object-requires : tie.Need-print-object-requires Inv-loop μ-loop
 print-object-requires c κs = search needs
 
--- src/main.rt:32:5
 loop-less : tie.Need-loop-less Inv-loop μ-loop
 loop-less c =
     let v = next-moves _ _ _ _ _ (sym (c .before .before .before .before .next .ensures) ∙ c .before .before .n .given .1) in
     omega (arith, v .forward, v .within, header-some (c .before .before .before .before .before .before .before .before .args .g .granularity) (c .before .before .before .before .before .before .before .before .args .g .s))
 
--- src/main.rt:32:5
 loop-again : tie.Need-loop-again Inv-loop μ-loop
 loop-again c = tt
 

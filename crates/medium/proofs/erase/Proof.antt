@@ -8,79 +8,55 @@ use Rattle.medium.proofs.Stores.{erase-part, erase-done, put-under, bla
 use borrow.Author.Needs.{needs}
 use Rattle.medium.proofs.erase.Statement.{statement}
 use Rattle.medium.proofs.erase.Tie as tie
-use Rattle.medium.proofs.erase.Reads as reads
-use Rattle.medium.proofs.erase.Lts as lts
-use Rattle.medium.proofs.fill.Reads as fill-reads
-use Rattle.medium.proofs.fuse.granted.Reads as granted-reads
-use Rattle.medium.proofs.fuse.outcome.Reads as outcome-reads
-use Rattle.medium.proofs.fuse.spend.Reads as spend-reads
-use Rattle.medium.proofs.may_erase.Reads as may-erase-reads
 
--- src/lib.rt:144:9
 may-erase-requires : tie.Need-may-erase-requires
 may-erase-requires c κs = search needs
 
--- src/lib.rt:146:9
 returns : tie.Need-returns
 returns c = erase-refused _ _ _ _ _ (c .before .may-erase .ensures) (c .if1 .taken)
 
--- src/lib.rt:148:9
 spend-requires : tie.Need-spend-requires
 spend-requires c κs = search needs
 
--- src/lib.rt:149:34
 cast-at : tie.Need-cast-at
 cast-at c = search needs
 
--- src/lib.rt:149:14
 mul-at : tie.Need-mul-at
 mul-at c = let h = erase-at _ _ _ _ (c .before .before .before .may-erase .ensures) (c .before .before .if1 .left) in omega arith
 
--- src/lib.rt:150:9
 granted-requires : tie.Need-granted-requires
 granted-requires c κs = search needs
 
--- src/lib.rt:151:14
 cast-n : tie.Need-cast-n
 cast-n c = search needs
 
--- src/lib.rt:151:29
 cast-n-2 : tie.Need-cast-n-2
 cast-n-2 c = search needs
 
--- src/lib.rt:151:13
 mul-n : tie.Need-mul-n
 mul-n c = let h = erase-part _ _ _ _ _ _ _ (c .before .before .before .before .before .may-erase .ensures) (c .before .before .before .before .if1 .left) (c .before .before .before .spend .ensures) (c .before .granted .ensures) in omega arith
 
--- src/lib.rt:152:25
 add-fill : tie.Need-add-fill
 add-fill c = let h = erase-part _ _ _ _ _ _ _ (c .before .before .before .before .before .may-erase .ensures) (c .before .before .before .before .if1 .left) (c .before .before .before .spend .ensures) (c .before .granted .ensures) in omega arith
 
--- src/lib.rt:152:10
 sub-fill : tie.Need-sub-fill
 sub-fill c = search needs
 
--- src/lib.rt:152:10
 part-fill-start : tie.Need-part-fill-start
 part-fill-start c = search needs
 
--- src/lib.rt:152:10
 part-fill-end : tie.Need-part-fill-end
 part-fill-end c = let h = erase-part _ _ _ _ _ _ _ (c .before .before .before .before .before .may-erase .ensures) (c .before .before .before .before .if1 .left) (c .before .before .before .spend .ensures) (c .before .granted .ensures) in omega arith
 
--- src/lib.rt:152:5
 fill-requires : tie.Need-fill-requires
 fill-requires c κs = search needs
 
--- src/lib.rt:153:5
 outcome-requires : tie.Need-outcome-requires
 outcome-requires c κs = search needs
 
--- src/lib.rt:141:1
 same-length : tie.Need-same-length
 same-length c = search needs
 
--- src/lib.rt:141:1
 returns-2 : tie.Need-returns-2
 returns-2 c =
     let a = c .before .before .before .before .before .before .before .before .before .before .before .before .args in

@@ -8,8 +8,6 @@ use Rattle.medium.specs.Units.{blank}
 use Rattle.medium.proofs.Stores.{blank-more}
 use Rattle.medium.proofs.fill.Statement.{statement}
 use Rattle.medium.proofs.fill.Tie as tie
-use Rattle.medium.proofs.fill.Reads as reads
-use Rattle.medium.proofs.fill.Lts as lts
 
 abbrev Inv-loop : tie.InvT-loop
 Inv-loop part₀ i₀ part i = (i ≤ length part₀) × (length part ≡ length part₀) × (part ≡ blank i part₀)

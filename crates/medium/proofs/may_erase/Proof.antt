@@ -5,25 +5,18 @@ use Rattle.medium.proofs.Checks.{admit-pass, admit-stop}
 use borrow.Author.Needs.{needs}
 use Rattle.medium.proofs.may_erase.Statement.{statement}
 use Rattle.medium.proofs.may_erase.Tie as tie
-use Rattle.medium.proofs.may_erase.Reads as reads
-use Rattle.medium.proofs.may_erase.Lts as lts
-use Rattle.medium.proofs.geometry.check.Reads as check-reads
 
--- src/lib.rt:173:9
 check-requires : tie.Need-check-requires
 check-requires c κs = search needs
 
--- src/lib.rt:175:9
 returns : tie.Need-returns
 unfolding erasable
 returns c = admit-stop _ _ _ _ (c .before .check .ensures) (c .if1 .taken)
 
--- src/lib.rt:178:9
 returns-2 : tie.Need-returns-2
 unfolding erasable
 returns-2 c = sym (admit-pass _ _ _ _ (c .before .before .before .check .ensures) (c .before .before .if1 .left) ∙ simp (le-ltb _ _ (c .if2 .taken)))
 
--- src/lib.rt:170:1
 returns-3 : tie.Need-returns-3
 unfolding erasable
 returns-3 c = sym (admit-pass _ _ _ _ (c .before .before .before .check .ensures) (c .before .before .if1 .left) ∙ simp (lt-ltb _ _ (c .if2 .left)))

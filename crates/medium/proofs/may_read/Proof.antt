@@ -9,45 +9,34 @@ use Rattle.medium.proofs.Checks.{admit-pass, admit-stop}
 use borrow.Author.Needs.{needs}
 use Rattle.medium.proofs.may_read.Statement.{statement}
 use Rattle.medium.proofs.may_read.Tie as tie
-use Rattle.medium.proofs.may_read.Reads as reads
-use Rattle.medium.proofs.may_read.Lts as lts
-use Rattle.medium.proofs.geometry.check.Reads as check-reads
 
--- src/lib.rt:60:9
 check-requires : tie.Need-check-requires
 check-requires c κs = search needs
 
--- src/lib.rt:62:9
 returns : tie.Need-returns
 unfolding readable
 returns c = admit-stop _ _ _ _ (c .before .check .ensures) (c .if1 .taken)
 
--- src/lib.rt:65:9
 returns-2 : tie.Need-returns-2
 unfolding readable
 returns-2 c = sym (admit-pass _ _ _ _ (c .before .before .before .check .ensures) (c .before .before .if1 .left) ∙ simp (le-ltb _ _ (c .if2 .taken)))
 
--- src/lib.rt:67:16
 cast-size : tie.Need-cast-size
 cast-size c = search needs
 
--- src/lib.rt:69:9
 returns-3 : tie.Need-returns-3
 unfolding readable
 returns-3 c =
     let h : c .before .before .before .before .before .before .args .g .size < c .before .before .before .before .before .before .args .offset + c .before .before .before .before .before .before .args .n = omega arith in
     sym (admit-pass _ _ _ _ (c .before .before .before .before .before .check .ensures) (c .before .before .before .before .if1 .left) ∙ simp (lt-leb _ _ h, and-false))
 
--- src/lib.rt:71:15
 add-if4 : tie.Need-add-if4
 add-if4 c = search needs
 
--- src/lib.rt:72:9
 returns-4 : tie.Need-returns-4
 unfolding readable
 returns-4 c = sym (admit-pass _ _ _ _ (c .before .before .before .before .before .before .check .ensures) (c .before .before .before .before .before .if1 .left) ∙ simp (lt-leb _ _ (c .if4 .taken), and-false))
 
--- src/lib.rt:56:1
 returns-5 : tie.Need-returns-5
 unfolding readable
 returns-5 c = sym (admit-pass _ _ _ _ (c .before .before .before .before .before .before .check .ensures) (c .before .before .before .before .before .if1 .left) ∙ simp (lt-ltb _ _ (c .before .before .before .if2 .left), le-leb _ _ (c .if4 .left)))

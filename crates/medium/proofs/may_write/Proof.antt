@@ -11,69 +11,50 @@ use Rattle.medium.proofs.Checks.{admit-pass, admit-stop}
 use borrow.Author.Needs.{needs}
 use Rattle.medium.proofs.may_write.Statement.{statement}
 use Rattle.medium.proofs.may_write.Tie as tie
-use Rattle.medium.proofs.may_write.Reads as reads
-use Rattle.medium.proofs.may_write.Lts as lts
-use Rattle.medium.proofs.granularity.Granularity.width.Reads as width-reads
-use Rattle.medium.proofs.geometry.check.Reads as check-reads
-use Rattle.medium.proofs.granularity.units.Reads as units-reads
 
--- src/lib.rt:20:9
 check-requires : tie.Need-check-requires
 check-requires c κs = search needs
 
--- src/lib.rt:22:9
 returns : tie.Need-returns
 unfolding writable
 returns c = admit-stop _ _ _ _ (c .before .check .ensures) (c .if1 .taken)
 
--- src/lib.rt:25:9
 returns-2 : tie.Need-returns-2
 unfolding writable
 returns-2 c = sym (admit-pass _ _ _ _ (c .before .before .before .check .ensures) (c .before .before .if1 .left) ∙ simp (le-ltb _ _ (c .if2 .taken)))
 
--- src/lib.rt:27:16
 cast-size : tie.Need-cast-size
 cast-size c = search needs
 
--- src/lib.rt:29:9
 returns-3 : tie.Need-returns-3
 unfolding writable
 returns-3 c =
     let h : c .before .before .before .before .before .before .args .g .size < c .before .before .before .before .before .before .args .offset + alignOf (widthOf (c .before .before .before .before .before .before .args .g .granularity)) (c .before .before .before .before .before .before .args .n) = omega arith in
     sym (admit-pass _ _ _ _ (c .before .before .before .before .before .check .ensures) (c .before .before .before .before .if1 .left) ∙ simp (lt-leb _ _ h, and-false))
 
--- src/lib.rt:32:13
 width-requires : tie.Need-width-requires
 width-requires c κs = search needs
 
--- src/lib.rt:32:13
--- src/lib.rt:33:8
 rem-if4 : tie.Need-rem-if4
 rem-if4 c = omega (arith, width-is (c .before .before .before .before .before .before .before .args .g .granularity), c .width .ensures)
 
--- src/lib.rt:34:9
 returns-4 : tie.Need-returns-4
 unfolding writable
 returns-4 c = sym (admit-pass _ _ _ _ (c .before .before .before .before .before .before .before .check .ensures) (c .before .before .before .before .before .before .if1 .left) ∙ simp (ne-eqb _ _ (rw (c .before .width .ensures) at (c .if4 .taken)), and-false))
 
--- src/lib.rt:36:17
 units-requires : tie.Need-units-requires
 units-requires c κs = omega (arith, width-is (c .before .before .before .before .before .before .before .before .args .g .granularity), c .before .width .ensures)
 
--- src/lib.rt:36:17
 mul-taken : tie.Need-mul-taken
 mul-taken c = let w = width-is (c .before .before .before .before .before .before .before .before .before .args .g .granularity) in let h = taken-le _ _ _ (c .units .ensures) (omega (arith, c .before .before .width .ensures)) in omega arith
 
--- src/lib.rt:37:15
 add-if5 : tie.Need-add-if5
 add-if5 c = let w = width-is (c .before .before .before .before .before .before .before .before .before .args .g .granularity) in let h = taken-le _ _ _ (c .units .ensures) (omega (arith, c .before .before .width .ensures)) in omega arith
 
--- src/lib.rt:38:9
 returns-5 : tie.Need-returns-5
 unfolding writable
 returns-5 c = sym (admit-pass _ _ _ _ (c .before .before .before .before .before .before .before .before .before .check .ensures) (c .before .before .before .before .before .before .before .before .if1 .left) ∙ simp (lt-leb _ _ (rw (c .before .units .ensures, c .before .before .before .width .ensures) at (c .if5 .taken)), and-false))
 
--- src/lib.rt:16:1
 returns-6 : tie.Need-returns-6
 unfolding writable
 returns-6 c =

@@ -5,18 +5,13 @@ use Rattle.medium.proofs.Stores.{getD-in}
 use borrow.Author.Needs.{needs}
 use Rattle.medium.proofs.padded.Statement.{statement}
 use Rattle.medium.proofs.padded.Tie as tie
-use Rattle.medium.proofs.padded.Reads as reads
-use Rattle.medium.proofs.padded.Lts as lts
 
--- src/lib.rt:204:24
 shared-slice-read-result : tie.Need-shared-slice-read-result
 shared-slice-read-result c = search needs
 
--- src/lib.rt:201:1
 returns : tie.Need-returns
 returns c = getD-in (c .before .before .args .src .now) _ 0 255 (c .before .if1 .taken)
 
--- src/lib.rt:201:1
 returns-2 : tie.Need-returns-2
 returns-2 c = sym (List·getD-eq-default (c .before .args .src .now) 255 (c .if1 .left))
 

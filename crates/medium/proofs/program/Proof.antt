@@ -8,9 +8,6 @@ use Rattle.medium.specs.Medium.{onto}
 use Rattle.medium.proofs.Stores.{onto-more}
 use Rattle.medium.proofs.program.Statement.{statement}
 use Rattle.medium.proofs.program.Tie as tie
-use Rattle.medium.proofs.program.Reads as reads
-use Rattle.medium.proofs.program.Lts as lts
-use Rattle.medium.proofs.padded.Reads as padded-reads
 
 abbrev Inv-loop : tie.InvT-loop
 Inv-loop part₀ src i₀ part i = (i ≤ length part₀) × (length part ≡ length part₀) × (part ≡ onto i src part₀)

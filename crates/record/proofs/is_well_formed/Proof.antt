@@ -3,29 +3,21 @@ use Rattle.record.specs.Record.{wellFormed}
 use borrow.Author.Needs.{needs}
 use Rattle.record.proofs.is_well_formed.Statement.{statement}
 use Rattle.record.proofs.is_well_formed.Tie as tie
-use Rattle.record.proofs.is_well_formed.Reads as reads
-use Rattle.record.proofs.is_well_formed.Lts as lts
-use Rattle.record.proofs.word.Reads as word-reads
 
--- src/lib.rt:54:9
 returns : tie.Need-returns
 unfolding wellFormed
 returns c = simp (ne-eqb _ _ (c .if1 .taken))
 
--- src/lib.rt:56:8
 shared-slice-read-if2 : tie.Need-shared-slice-read-if2
 shared-slice-read-if2 c = search needs
 
--- src/lib.rt:57:9
 returns-2 : tie.Need-returns-2
 unfolding wellFormed
 returns-2 c = simp (eq-eqb _ _ (c .before .before .if1 .left), ne-eqb _ _ (c .if2 .taken))
 
--- src/lib.rt:59:5
 word-requires : tie.Need-word-requires
 word-requires c κs = search needs
 
--- src/lib.rt:50:1
 returns-3 : tie.Need-returns-3
 unfolding wellFormed
 returns-3 c = rw (eq-eqb _ _ (c .before .before .before .if1 .left), eq-eqb _ _ (c .before .if2 .left), ← c .word .ensures)

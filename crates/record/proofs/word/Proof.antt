@@ -4,78 +4,58 @@ use Rattle.record.specs.Record.{wordAt}
 use borrow.Author.Needs.{needs}
 use Rattle.record.proofs.word.Statement.{statement}
 use Rattle.record.proofs.word.Tie as tie
-use Rattle.record.proofs.word.Reads as reads
-use Rattle.record.proofs.word.Lts as lts
 
--- src/lib.rt:67:13
 shared-slice-read-a : tie.Need-shared-slice-read-a
 shared-slice-read-a c = search needs
 
--- src/lib.rt:67:13
 cast-a : tie.Need-cast-a
 cast-a c = omega (arith, c .shared-slice-known .given (c .before .args .at))
 
--- src/lib.rt:68:17
 add-b : tie.Need-add-b
 add-b c = search needs
 
--- src/lib.rt:68:13
 shared-slice-read-b : tie.Need-shared-slice-read-b
 shared-slice-read-b c = search needs
 
--- src/lib.rt:68:13
 cast-b : tie.Need-cast-b
 cast-b c = omega (arith, c .shared-slice-known2 .given (c .before .before .args .at + 1))
 
--- src/lib.rt:69:17
 add-c : tie.Need-add-c
 add-c c = search needs
 
--- src/lib.rt:69:13
 shared-slice-read-c : tie.Need-shared-slice-read-c
 shared-slice-read-c c = search needs
 
--- src/lib.rt:69:13
 cast-c : tie.Need-cast-c
 cast-c c = omega (arith, c .shared-slice-known3 .given (c .before .before .before .args .at + 2))
 
--- src/lib.rt:70:17
 add-d : tie.Need-add-d
 add-d c = search needs
 
--- src/lib.rt:70:13
 shared-slice-read-d : tie.Need-shared-slice-read-d
 shared-slice-read-d c = search needs
 
--- src/lib.rt:70:13
 cast-d : tie.Need-cast-d
 cast-d c = omega (arith, c .shared-slice-known4 .given (c .before .before .before .before .args .at + 3))
 
--- src/lib.rt:71:31
 mul-result : tie.Need-mul-result
 mul-result c = omega (arith, c .shared-slice-known4 .given (c .before .before .before .before .args .at + 3))
 
--- src/lib.rt:71:27
 add-result : tie.Need-add-result
 add-result c = omega (arith, c .shared-slice-known4 .given (c .before .before .before .before .args .at + 3), c .before .shared-slice-known3 .given (c .before .before .before .before .args .at + 2))
 
--- src/lib.rt:71:20
 mul-result-2 : tie.Need-mul-result-2
 mul-result-2 c = omega (arith, c .shared-slice-known4 .given (c .before .before .before .before .args .at + 3), c .before .shared-slice-known3 .given (c .before .before .before .before .args .at + 2))
 
--- src/lib.rt:71:16
 add-result-2 : tie.Need-add-result-2
 add-result-2 c = omega (arith, c .shared-slice-known4 .given (c .before .before .before .before .args .at + 3), c .before .shared-slice-known3 .given (c .before .before .before .before .args .at + 2), c .before .before .shared-slice-known2 .given (c .before .before .before .before .args .at + 1))
 
--- src/lib.rt:71:9
 mul-result-3 : tie.Need-mul-result-3
 mul-result-3 c = omega (arith, c .shared-slice-known4 .given (c .before .before .before .before .args .at + 3), c .before .shared-slice-known3 .given (c .before .before .before .before .args .at + 2), c .before .before .shared-slice-known2 .given (c .before .before .before .before .args .at + 1))
 
--- src/lib.rt:71:5
 add-result-3 : tie.Need-add-result-3
 add-result-3 c = omega (arith, c .shared-slice-known4 .given (c .before .before .before .before .args .at + 3), c .before .shared-slice-known3 .given (c .before .before .before .before .args .at + 2), c .before .before .shared-slice-known2 .given (c .before .before .before .before .args .at + 1), c .before .before .before .shared-slice-known .given (c .before .before .before .before .args .at))
 
--- src/lib.rt:63:1
 returns : tie.Need-returns
 unfolding wordAt
 returns c = search needs

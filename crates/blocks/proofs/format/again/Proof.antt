@@ -2,19 +2,14 @@ use borrow.Author.Tests.{eq-eqb, ne-eqb}
 use borrow.Author.Needs.{needs}
 use Rattle.blocks.proofs.format.again.Statement.{statement}
 use Rattle.blocks.proofs.format.again.Tie as tie
-use Rattle.blocks.proofs.format.again.Reads as reads
-use Rattle.blocks.proofs.format.again.Lts as lts
 
--- src/format.rt:104:9
 returns : tie.Need-returns
 unfolding Rattle.blocks.specs.Format.again
 returns c = rw (eq-eqb _ _ (c .if1 .taken))
 
--- src/format.rt:106:17
 add-t3 : tie.Need-add-t3
 add-t3 c = search needs
 
--- src/format.rt:100:1
 returns-2 : tie.Need-returns-2
 unfolding Rattle.blocks.specs.Format.again
 returns-2 c = rw (ne-eqb _ _ (c .if1 .left))

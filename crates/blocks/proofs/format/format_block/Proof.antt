@@ -4,69 +4,49 @@ use Rattle.blocks.proofs.Formats.{format-by}
 use borrow.Author.Needs.{needs}
 use Rattle.blocks.proofs.format.format_block.Statement.{statement}
 use Rattle.blocks.proofs.format.format_block.Tie as tie
-use Rattle.blocks.proofs.format.format_block.Reads as reads
-use Rattle.blocks.proofs.format.format_block.Lts as lts
-use Rattle.blocks.proofs.format.label.Reads as label-reads
-use Rattle.blocks.proofs.format.plan_format.Reads as plan-format-reads
-use Rattle.blocks.proofs.format.renew.Reads as renew-reads
 
--- src/format.rt:193:9
 plan-format-requires : tie.Need-plan-format-requires
 plan-format-requires c κs = search needs
 
--- src/format.rt:195:23
 enum-told : tie.Need-enum-told
 enum-told c = search needs
 
--- src/format.rt:196:33
 enum-told-2 : tie.Need-enum-told-2
 enum-told-2 c = search needs
 
--- src/format.rt:196:24
 label-requires : tie.Need-label-requires
 label-requires c κs = search needs
 
--- src/format.rt:197:21
 enum-known-p : tie.Need-enum-known-p
 enum-known-p c = search needs
 
--- src/format.rt:197:27
 renew-requires : tie.Need-renew-requires
 renew-requires c κs = search needs
 
--- src/format.rt:198:23
 enum-known-p-2 : tie.Need-enum-known-p-2
 enum-known-p-2 c = search needs
 
--- src/format.rt:190:1
 same-length : tie.Need-same-length
 same-length c = search needs
 
--- src/format.rt:190:1
 returns : tie.Need-returns
 returns c = sym (format-by _ _ _ _ _ _ (c .before .before .plan-format .ensures) (c .enum-told .given .1) ∙ run-ask _ _ _)
 
--- src/format.rt:190:1
 same-length-2 : tie.Need-same-length-2
 same-length-2 c = search needs
 
--- src/format.rt:190:1
 returns-2 : tie.Need-returns-2
 returns-2 c = c .before .before .label .ensures ∙ sym (format-by _ _ _ _ _ _ (c .before .before .before .before .before .before .plan-format .ensures) (c .before .before .before .before .enum-told2 .given .1))
 
--- src/format.rt:190:1
 same-length-3 : tie.Need-same-length-3
 same-length-3 c = search needs
 
--- src/format.rt:190:1
 returns-3 : tie.Need-returns-3
 returns-3 c = c .before .before .renew .ensures ∙ sym (format-by _ _ _ _ _ _ (c .before .before .before .before .before .before .before .plan-format .ensures) (c .before .before .before .before .before .p .given .1))
 
--- src/format.rt:190:1
 same-length-4 : tie.Need-same-length-4
 same-length-4 c = search needs
 
--- src/format.rt:190:1
 returns-4 : tie.Need-returns-4
 returns-4 c = sym (format-by _ _ _ _ _ _ (c .before .before .before .plan-format .ensures) (c .before .p2 .given .1) ∙ run-ask _ _ _)
 

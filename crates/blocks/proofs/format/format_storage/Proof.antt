@@ -9,10 +9,6 @@ use Rattle.blocks.specs.Format.{formatFrom, formatStorage}
 use Rattle.blocks.proofs.Formats.{format-step, format-end, storage-stop, storage-on}
 use Rattle.blocks.proofs.format.format_storage.Statement.{statement}
 use Rattle.blocks.proofs.format.format_storage.Tie as tie
-use Rattle.blocks.proofs.format.format_storage.Reads as reads
-use Rattle.blocks.proofs.format.format_storage.Lts as lts
-use Rattle.blocks.proofs.format.format_block.Reads as format-block-reads
-use Rattle.medium.proofs.geometry.check.Reads as check-reads
 
 abbrev Inv-loop : tie.InvT-loop
 Inv-loop g image₀ bad n fuse₀ b₀ image fuse b = (b ≤ n) × (length image ≡ length image₀) × (run fuse₀ (formatStorage g) image₀ ≡ run fuse (formatFrom (n - b) g b) image)
@@ -20,55 +16,42 @@ Inv-loop g image₀ bad n fuse₀ b₀ image fuse b = (b ≤ n) × (length image
 abbrev μ-loop : tie.MeasureT-loop
 μ-loop g image₀ bad n fuse₀ b₀ image fuse b = n - b
 
--- src/format.rt:206:9
 check-requires : tie.Need-check-requires Inv-loop μ-loop
 check-requires c κs = search needs
 
--- src/format.rt:208:9
 returns : tie.Need-returns Inv-loop μ-loop
 returns c = sym (storage-stop _ _ _ _ (c .before .check .ensures) (c .if1 .taken))
 
--- src/format.rt:213:5
 loop-holds : tie.Need-loop-holds Inv-loop μ-loop
 loop-holds c = (omega arith, refl, storage-on _ _ _ _ (c .before .check .ensures) (c .if1 .left))
 
--- src/format.rt:214:13
 format-block-requires : tie.Need-format-block-requires Inv-loop μ-loop
 format-block-requires c κs = search needs
 
--- src/format.rt:215:26
 enum-known-a : tie.Need-enum-known-a Inv-loop μ-loop
 enum-known-a c = search needs
 
--- src/format.rt:216:13
 enum-told : tie.Need-enum-told Inv-loop μ-loop
 enum-told c = search needs
 
--- src/format.rt:216:13
 same-length : tie.Need-same-length Inv-loop μ-loop
 same-length c = search needs
 
--- src/format.rt:216:13
 returns-2 : tie.Need-returns-2 Inv-loop μ-loop
 returns-2 c = rw (c .enum-told .given .1) (sym (c .before .before .before .before .before .before .before .loop .inv .2 ∙ format-step _ _ _ _ _ (c .before .before .before .before .before .before .loop-test .taken) ∙ stop _ _ _ _ _ _ _ _ (c .before .before .before .before .format-block .ensures) (c .enum-told .given .1)))
 
--- src/format.rt:219:9
 add-b : tie.Need-add-b Inv-loop μ-loop
 add-b c = omega arith
 
--- src/format.rt:213:5
 loop-less : tie.Need-loop-less Inv-loop μ-loop
 loop-less c = omega arith
 
--- src/format.rt:213:5
 loop-again : tie.Need-loop-again Inv-loop μ-loop
 loop-again c = (omega arith, search needs, c .before .before .before .before .before .before .before .before .loop .inv .2 ∙ format-step _ _ _ _ _ (c .before .before .before .before .before .before .before .loop-test .taken) ∙ on _ _ _ _ _ _ _ _ (c .before .before .before .before .before .format-block .ensures) (c .before .a .given .1))
 
--- src/format.rt:203:1
 same-length-2 : tie.Need-same-length-2 Inv-loop μ-loop
 same-length-2 c = search needs
 
--- src/format.rt:203:1
 returns-3 : tie.Need-returns-3 Inv-loop μ-loop
 returns-3 c = sym (c .before .loop .inv .2 ∙ format-end _ _ _ _ _ (c .loop-test .left))
 

@@ -7,65 +7,46 @@ use Rattle.blocks.proofs.Formats.{reach-fine, data-unreached, data-told
 use borrow.Author.Needs.{needs}
 use Rattle.blocks.proofs.format.is_block_data_empty.Statement.{statement}
 use Rattle.blocks.proofs.format.is_block_data_empty.Tie as tie
-use Rattle.blocks.proofs.format.is_block_data_empty.Reads as reads
-use Rattle.blocks.proofs.format.is_block_data_empty.Lts as lts
-use Rattle.blocks.proofs.format.is_erased.Reads as is-erased-reads
-use Rattle.blocks.proofs.format.reach.Reads as reach-reads
-use Rattle.medium.proofs.granularity.Granularity.block_header.Reads as block-header-reads
 
--- src/format.rt:85:9
 reach-requires : tie.Need-reach-requires
 reach-requires c κs = search needs
 
--- src/format.rt:87:9
 returns : tie.Need-returns
 returns c = sym (data-unreached _ _ _ _ (c .before .reach .ensures) (c .if1 .taken))
 
--- src/format.rt:89:16
 cast-size : tie.Need-cast-size
 cast-size c = search needs
 
--- src/format.rt:91:14
 mul-at : tie.Need-mul-at
 mul-at c = let h = erase-at _ _ _ _ (c .before .before .reach .ensures) (c .before .if1 .left) in omega arith
 
--- src/format.rt:91:40
 block-header-requires : tie.Need-block-header-requires
 block-header-requires c κs = search needs
 
--- src/format.rt:91:14
 add-at : tie.Need-add-at
 add-at c = let h = erase-at _ _ _ _ (c .before .before .before .reach .ensures) (c .before .before .if1 .left) in omega (arith, c .block-header .ensures, headed (c .before .before .before .before .before .args .g .granularity) .block-short)
 
--- src/format.rt:92:15
 mul-end : tie.Need-mul-end
 mul-end c = let h = erase-at _ _ _ _ (c .before .before .before .reach .ensures) (c .before .before .if1 .left) in omega arith
 
--- src/format.rt:92:15
 add-end : tie.Need-add-end
 add-end c = let h = erase-at _ _ _ _ (c .before .before .before .reach .ensures) (c .before .before .if1 .left) in omega arith
 
--- src/format.rt:93:18
 sub-is-erased : tie.Need-sub-is-erased
 sub-is-erased c = let h = reach-fine _ _ _ _ (c .before .before .before .reach .ensures) (c .before .before .if1 .left) in omega (arith, h .sound .least, c .block-header .ensures, headed (c .before .before .before .before .before .args .g .granularity) .block-short)
 
--- src/format.rt:93:18
 part-is-erased-start : tie.Need-part-is-erased-start
 part-is-erased-start c = let h = erase-at _ _ _ _ (c .before .before .before .reach .ensures) (c .before .before .if1 .left) in let l = reach-fine _ _ _ _ (c .before .before .before .reach .ensures) (c .before .before .if1 .left) in omega (arith, h, l .sound .least, c .block-header .ensures, headed (c .before .before .before .before .before .args .g .granularity) .block-short)
 
--- src/format.rt:93:18
 part-is-erased-end : tie.Need-part-is-erased-end
 part-is-erased-end c = let h = erase-at _ _ _ _ (c .before .before .before .reach .ensures) (c .before .before .if1 .left) in let l = reach-fine _ _ _ _ (c .before .before .before .reach .ensures) (c .before .before .if1 .left) in omega (arith, h, l .sound .least, c .block-header .ensures, headed (c .before .before .before .before .before .args .g .granularity) .block-short)
 
--- src/format.rt:93:8
 is-erased-requires : tie.Need-is-erased-requires
 is-erased-requires c κs = search needs
 
--- src/format.rt:94:9
 returns-2 : tie.Need-returns-2
 returns-2 c = let n : c .before .before .before .before .before .before .before .before .args .block * c .before .before .before .before .before .before .before .before .args .g .size + c .before .before .before .before .before .before .before .before .args .g .size - (c .before .before .before .before .before .before .before .before .args .block * c .before .before .before .before .before .before .before .before .args .g .size + c .before .before .before .block-header .result) ≡ c .before .before .before .before .before .before .before .before .args .g .size - c .before .before .before .block-header .result = omega arith in sym (data-told _ _ _ _ (c .before .before .before .before .before .before .reach .ensures) _ _ _ (c .before .before .before .block-header .ensures) n (sym (c .if2 .taken) ∙ c .before .is-erased .ensures) (c .before .before .before .before .before .if1 .left))
 
--- src/format.rt:82:1
 returns-3 : tie.Need-returns-3
 returns-3 c = let n : c .before .before .before .before .before .before .before .before .args .block * c .before .before .before .before .before .before .before .before .args .g .size + c .before .before .before .before .before .before .before .before .args .g .size - (c .before .before .before .before .before .before .before .before .args .block * c .before .before .before .before .before .before .before .before .args .g .size + c .before .before .before .block-header .result) ≡ c .before .before .before .before .before .before .before .before .args .g .size - c .before .before .before .block-header .result = omega arith in sym (data-told _ _ _ _ (c .before .before .before .before .before .before .reach .ensures) _ _ _ (c .before .before .before .block-header .ensures) n (sym (c .if2 .left) ∙ c .before .is-erased .ensures) (c .before .before .before .before .before .if1 .left))
 

@@ -6,8 +6,6 @@ use Rattle.blocks.specs.Format.{allFF}
 use Rattle.blocks.proofs.Formats.{erased-more, erased-not, erased-end}
 use Rattle.blocks.proofs.format.is_erased.Statement.{statement}
 use Rattle.blocks.proofs.format.is_erased.Tie as tie
-use Rattle.blocks.proofs.format.is_erased.Reads as reads
-use Rattle.blocks.proofs.format.is_erased.Lts as lts
 
 abbrev Inv-loop : tie.InvT-loop
 Inv-loop part i₀ i = (i ≤ length part) × (allFF part ≡ allFF (drop i part))
@@ -15,31 +13,24 @@ Inv-loop part i₀ i = (i ≤ length part) × (allFF part ≡ allFF (drop i part
 abbrev μ-loop : tie.MeasureT-loop
 μ-loop part i₀ i = length part - i
 
--- src/format.rt:72:5
 loop-holds : tie.Need-loop-holds Inv-loop μ-loop
 loop-holds c = (omega arith, refl)
 
--- src/format.rt:73:12
 shared-slice-read-if1 : tie.Need-shared-slice-read-if1 Inv-loop μ-loop
 shared-slice-read-if1 c = omega arith
 
--- src/format.rt:74:13
 returns : tie.Need-returns Inv-loop μ-loop
 returns c = sym (c .before .before .before .loop .inv .1 ∙ erased-not _ _ (c .before .before .loop-test .taken) (c .if1 .taken))
 
--- src/format.rt:76:9
 add-i : tie.Need-add-i Inv-loop μ-loop
 add-i c = omega arith
 
--- src/format.rt:72:5
 loop-less : tie.Need-loop-less Inv-loop μ-loop
 loop-less c = omega arith
 
--- src/format.rt:72:5
 loop-again : tie.Need-loop-again Inv-loop μ-loop
 loop-again c = (omega arith, c .before .before .before .loop .inv .1 ∙ erased-more _ _ (c .before .before .loop-test .taken) (c .if1 .left))
 
--- src/format.rt:68:1
 returns-2 : tie.Need-returns-2 Inv-loop μ-loop
 returns-2 c = let e : c .before .loop .i ≡ length (c .before .before .args .part .now) = omega arith in sym (c .before .loop .inv .1 ∙ erased-end _ _ e)
 

@@ -1,30 +1,22 @@
 use borrow.Author.Needs.{needs}
 use Rattle.blocks.proofs.format.plan_empty.Statement.{statement}
 use Rattle.blocks.proofs.format.plan_empty.Tie as tie
-use Rattle.blocks.proofs.format.plan_empty.Reads as reads
-use Rattle.blocks.proofs.format.plan_empty.Lts as lts
 
--- src/format.rt:113:29
 enum-told : tie.Need-enum-told
 enum-told c = search needs
 
--- src/format.rt:114:31
 enum-told-2 : tie.Need-enum-told-2
 enum-told-2 c = search needs
 
--- src/format.rt:115:28
 enum-known-e : tie.Need-enum-known-e
 enum-known-e c = search needs
 
--- src/format.rt:109:1
 returns : tie.Need-returns
 returns c = search needs
 
--- src/format.rt:109:1
 returns-2 : tie.Need-returns-2
 returns-2 c = search needs
 
--- src/format.rt:109:1
 returns-3 : tie.Need-returns-3
 returns-3 c = rw (c .before .e .given .1)
 

@@ -2,51 +2,36 @@ use Rattle.blocks.specs.Format.{planKnown}
 use borrow.Author.Needs.{needs}
 use Rattle.blocks.proofs.format.plan_known.Statement.{statement}
 use Rattle.blocks.proofs.format.plan_known.Tie as tie
-use Rattle.blocks.proofs.format.plan_known.Reads as reads
-use Rattle.blocks.proofs.format.plan_known.Lts as lts
-use Rattle.blocks.proofs.format.again.Reads as again-reads
-use Rattle.blocks.proofs.format.is_block_data_empty.Reads as is-block-data-empty-reads
-use Rattle.blocks.proofs.format.plan_undefined.Reads as plan-undefined-reads
 
--- src/format.rt:133:32
 enum-told : tie.Need-enum-told
 enum-told c = search needs
 
--- src/format.rt:133:32
 again-requires : tie.Need-again-requires
 again-requires c κs = search needs
 
--- src/format.rt:134:28
 enum-told-2 : tie.Need-enum-told-2
 enum-told-2 c = search needs
 
--- src/format.rt:134:28
 again-requires-2 : tie.Need-again-requires-2
 again-requires-2 c κs = search needs
 
--- src/format.rt:135:51
 enum-told-3 : tie.Need-enum-told-3
 enum-told-3 c = search needs
 
--- src/format.rt:135:51
 is-block-data-empty-requires : tie.Need-is-block-data-empty-requires
 is-block-data-empty-requires c κs = search needs
 
--- src/format.rt:135:33
 plan-undefined-requires : tie.Need-plan-undefined-requires
 plan-undefined-requires c κs = search needs
 
--- src/format.rt:129:1
 returns : tie.Need-returns
 unfolding planKnown
 returns c = rw (c .before .enum-told .given .1) (c .again .ensures)
 
--- src/format.rt:129:1
 returns-2 : tie.Need-returns-2
 unfolding planKnown
 returns-2 c = rw (c .before .enum-told2 .given .1) (c .again2 .ensures)
 
--- src/format.rt:129:1
 returns-3 : tie.Need-returns-3
 unfolding planKnown
 returns-3 c = rw (c .before .before .enum-told3 .given .1, ← c .before .is-block-data-empty .ensures) (c .plan-undefined .ensures)

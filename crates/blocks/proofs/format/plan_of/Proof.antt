@@ -3,52 +3,37 @@ use Rattle.blocks.specs.Format.{planOf}
 use borrow.Author.Needs.{needs}
 use Rattle.blocks.proofs.format.plan_of.Statement.{statement}
 use Rattle.blocks.proofs.format.plan_of.Tie as tie
-use Rattle.blocks.proofs.format.plan_of.Reads as reads
-use Rattle.blocks.proofs.format.plan_of.Lts as lts
-use Rattle.blocks.proofs.format.is_block_data_empty.Reads as is-block-data-empty-reads
-use Rattle.blocks.proofs.format.plan_empty.Reads as plan-empty-reads
-use Rattle.blocks.proofs.format.plan_known.Reads as plan-known-reads
 
--- src/format.rt:145:37
 enum-told : tie.Need-enum-told
 enum-told c = search needs
 
--- src/format.rt:146:32
 enum-known-kind : tie.Need-enum-known-kind
 enum-known-kind c = search needs
 
--- src/format.rt:146:38
 plan-known-requires : tie.Need-plan-known-requires
 plan-known-requires c κs = search needs
 
--- src/format.rt:148:16
 enum-told-2 : tie.Need-enum-told-2
 enum-told-2 c = search needs
 
--- src/format.rt:149:35
 is-block-data-empty-requires : tie.Need-is-block-data-empty-requires
 is-block-data-empty-requires c κs = search needs
 
--- src/format.rt:149:17
 plan-empty-requires : tie.Need-plan-empty-requires
 plan-empty-requires c κs = search needs
 
--- src/format.rt:149:17
 returns : tie.Need-returns
 unfolding planOf
 returns c = rw (c .before .before .before .enum-told2 .given .1, eq-eqb _ _ (c .before .before .if1 .taken), ← c .before .is-block-data-empty .ensures) (c .plan-empty .ensures)
 
--- src/format.rt:139:1
 returns-2 : tie.Need-returns-2
 unfolding planOf
 returns-2 c = rw (c .enum-told .given .1)
 
--- src/format.rt:139:1
 returns-3 : tie.Need-returns-3
 unfolding planOf
 returns-3 c = rw (c .before .before .kind .given .1) (c .plan-known .ensures)
 
--- src/format.rt:139:1
 returns-4 : tie.Need-returns-4
 unfolding planOf
 returns-4 c = rw (c .before .enum-told2 .given .1, ne-eqb _ _ (c .if1 .left))

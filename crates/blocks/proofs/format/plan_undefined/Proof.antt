@@ -1,35 +1,25 @@
 use borrow.Author.Needs.{needs}
 use Rattle.blocks.proofs.format.plan_undefined.Statement.{statement}
 use Rattle.blocks.proofs.format.plan_undefined.Tie as tie
-use Rattle.blocks.proofs.format.plan_undefined.Reads as reads
-use Rattle.blocks.proofs.format.plan_undefined.Lts as lts
-use Rattle.blocks.proofs.format.again.Reads as again-reads
 
--- src/format.rt:123:29
 enum-told : tie.Need-enum-told
 enum-told c = search needs
 
--- src/format.rt:124:31
 enum-told-2 : tie.Need-enum-told-2
 enum-told-2 c = search needs
 
--- src/format.rt:124:31
 again-requires : tie.Need-again-requires
 again-requires c κs = search needs
 
--- src/format.rt:125:28
 enum-known-e : tie.Need-enum-known-e
 enum-known-e c = search needs
 
--- src/format.rt:119:1
 returns : tie.Need-returns
 returns c = search needs
 
--- src/format.rt:119:1
 returns-2 : tie.Need-returns-2
 returns-2 c = rw (c .before .enum-told2 .given .1) (c .again .ensures)
 
--- src/format.rt:119:1
 returns-3 : tie.Need-returns-3
 returns-3 c = rw (c .before .e .given .1)
 

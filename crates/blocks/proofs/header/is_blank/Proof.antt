@@ -3,37 +3,28 @@ use Rattle.blocks.specs.BlockHeader.{blank}
 use borrow.Author.Needs.{needs}
 use Rattle.blocks.proofs.header.is_blank.Statement.{statement}
 use Rattle.blocks.proofs.header.is_blank.Tie as tie
-use Rattle.blocks.proofs.header.is_blank.Reads as reads
-use Rattle.blocks.proofs.header.is_blank.Lts as lts
 
--- src/header.rt:209:8
 shared-slice-read-if1 : tie.Need-shared-slice-read-if1
 shared-slice-read-if1 c = search needs
 
--- src/header.rt:210:9
 returns : tie.Need-returns
 unfolding blank
 returns c = simp (ne-eqb _ _ (c .if1 .taken))
 
--- src/header.rt:212:8
 shared-slice-read-if2 : tie.Need-shared-slice-read-if2
 shared-slice-read-if2 c = search needs
 
--- src/header.rt:213:9
 returns-2 : tie.Need-returns-2
 unfolding blank
 returns-2 c = simp (eq-eqb _ _ (c .before .before .if1 .left), ne-eqb _ _ (c .if2 .taken))
 
--- src/header.rt:215:8
 shared-slice-read-if3 : tie.Need-shared-slice-read-if3
 shared-slice-read-if3 c = search needs
 
--- src/header.rt:216:9
 returns-3 : tie.Need-returns-3
 unfolding blank
 returns-3 c = simp (eq-eqb _ _ (c .before .before .before .before .if1 .left), eq-eqb _ _ (c .before .before .if2 .left), ne-eqb _ _ (c .if3 .taken))
 
--- src/header.rt:205:1
 returns-4 : tie.Need-returns-4
 unfolding blank
 returns-4 c = simp (eq-eqb _ _ (c .before .before .before .before .if1 .left), eq-eqb _ _ (c .before .before .if2 .left), eq-eqb _ _ (c .if3 .left))

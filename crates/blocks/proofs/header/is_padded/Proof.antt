@@ -3,41 +3,31 @@ use Rattle.blocks.specs.BlockHeader.{padded}
 use borrow.Author.Needs.{needs}
 use Rattle.blocks.proofs.header.is_padded.Statement.{statement}
 use Rattle.blocks.proofs.header.is_padded.Tie as tie
-use Rattle.blocks.proofs.header.is_padded.Reads as reads
-use Rattle.blocks.proofs.header.is_padded.Lts as lts
 
--- src/header.rt:186:8
 shared-slice-read-if1 : tie.Need-shared-slice-read-if1
 shared-slice-read-if1 c = search needs
 
--- src/header.rt:187:9
 returns : tie.Need-returns
 unfolding padded
 returns c = simp (ne-eqb _ _ (c .if1 .taken))
 
--- src/header.rt:189:8
 shared-slice-read-if2 : tie.Need-shared-slice-read-if2
 shared-slice-read-if2 c = search needs
 
--- src/header.rt:190:9
 returns-2 : tie.Need-returns-2
 unfolding padded
 returns-2 c = simp (eq-eqb _ _ (c .before .before .if1 .left), ne-eqb _ _ (c .if2 .taken))
 
--- src/header.rt:192:8
 shared-slice-read-if3 : tie.Need-shared-slice-read-if3
 shared-slice-read-if3 c = search needs
 
--- src/header.rt:193:9
 returns-3 : tie.Need-returns-3
 unfolding padded
 returns-3 c = simp (eq-eqb _ _ (c .before .before .before .before .if1 .left), eq-eqb _ _ (c .before .before .if2 .left), ne-eqb _ _ (c .if3 .taken))
 
--- src/header.rt:195:5
 shared-slice-read-result : tie.Need-shared-slice-read-result
 shared-slice-read-result c = search needs
 
--- src/header.rt:182:1
 returns-4 : tie.Need-returns-4
 unfolding padded
 returns-4 c = rw (eq-eqb _ _ (c .before .before .before .before .before .if1 .left), eq-eqb _ _ (c .before .before .before .if2 .left), eq-eqb _ _ (c .before .if3 .left))

@@ -3,31 +3,22 @@ use Rattle.blocks.proofs.Headers.{bit-small}
 use borrow.Author.Needs.{needs}
 use Rattle.blocks.proofs.header.layout.Statement.{statement}
 use Rattle.blocks.proofs.header.layout.Tie as tie
-use Rattle.blocks.proofs.header.layout.Reads as reads
-use Rattle.blocks.proofs.header.layout.Lts as lts
-use Rattle.medium.proofs.granularity.Granularity.layout_bit.Reads as layout-bit-reads
 
--- src/header.rt:167:5
 mul-result : tie.Need-mul-result
 mul-result c = search needs
 
--- src/header.rt:167:16
 mul-result-2 : tie.Need-mul-result-2
 mul-result-2 c = search needs
 
--- src/header.rt:167:5
 add-result : tie.Need-add-result
 add-result c = search needs
 
--- src/header.rt:167:26
 layout-bit-requires : tie.Need-layout-bit-requires
 layout-bit-requires c κs = search needs
 
--- src/header.rt:167:5
 add-result-2 : tie.Need-add-result-2
 add-result-2 c = omega (arith, c .before .before .before .pre, c .layout-bit .ensures, bit-small (c .before .before .before .args .g .granularity))
 
--- src/header.rt:162:1
 returns : tie.Need-returns
 returns c = search needs
 

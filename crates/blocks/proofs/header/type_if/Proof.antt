@@ -3,24 +3,16 @@ use borrow.Author.Tests.{ne-eqb, eq-eqb}
 use borrow.Author.Needs.{needs}
 use Rattle.blocks.proofs.header.type_if.Statement.{statement}
 use Rattle.blocks.proofs.header.type_if.Tie as tie
-use Rattle.blocks.proofs.header.type_if.Reads as reads
-use Rattle.blocks.proofs.header.type_if.Lts as lts
-use Rattle.blocks.proofs.header.BlockType.byte.Reads as byte-reads
-use Rattle.medium.proofs.granularity.Granularity.type_at.Reads as type-at-reads
 
--- src/header.rt:237:8
 type-at-requires : tie.Need-type-at-requires
 type-at-requires c κs = search needs
 
--- src/header.rt:237:28
 byte-requires : tie.Need-byte-requires
 byte-requires c κs = search needs
 
--- src/header.rt:234:1
 returns : tie.Need-returns
 returns c = rw (eq-eqb _ _ (sym (c .before .before .type-at .ensures) ∙ c .before .if1 .taken), c .byte .ensures)
 
--- src/header.rt:234:1
 returns-2 : tie.Need-returns-2
 returns-2 c = rw (ne-eqb _ _ (λ q. c .if1 .left (c .before .type-at .ensures ∙ q)))
 

@@ -11,13 +11,6 @@ use Rattle.blocks.specs.Scan.{freeable, calculateFreeableSpace}
 use Rattle.blocks.proofs.Scans.{sum-more, sum-free, sum-end, sum-broken, freed-most}
 use Rattle.blocks.proofs.scan.calculate_freeable_space.Statement.{statement}
 use Rattle.blocks.proofs.scan.calculate_freeable_space.Tie as tie
-use Rattle.blocks.proofs.scan.calculate_freeable_space.Reads as reads
-use Rattle.blocks.proofs.scan.calculate_freeable_space.Lts as lts
-use Rattle.blocks.proofs.scan.freeable.Reads as freeable-reads
-use Rattle.blocks.proofs.scan.sum.Reads as sum-reads
-use Rattle.medium.proofs.geometry.check.Reads as check-reads
-use Rattle.objects.proofs.iterator.ObjectIterator.new.Reads as new-reads
-use Rattle.objects.proofs.iterator.ObjectIterator.next.Reads as next-reads
 
 abbrev Inv-loop : tie.InvT-loop
 Inv-loop g image block bad k i₀ deleted₀ i deleted = (deleted ≤ i .location .offset) × (i .location .offset ≤ 4294967295) × (calculateFreeableSpace g block image ≡ freeable g deleted (listFrom (g .size) g i image))
@@ -25,77 +18,59 @@ Inv-loop g image block bad k i₀ deleted₀ i deleted = (deleted ≤ i .locatio
 abbrev μ-loop : tie.MeasureT-loop
 μ-loop g image block bad k i₀ deleted₀ i deleted = g .size - i .location .offset
 
--- src/scan.rt:147:9
 check-requires : tie.Need-check-requires Inv-loop μ-loop
 check-requires c κs = search needs
 
--- src/scan.rt:149:9
 returns : tie.Need-returns Inv-loop μ-loop
 unfolding calculateFreeableSpace
 returns c = sym (gate-stop _ _ _ (c .before .check .ensures) (c .if1 .taken))
 
--- src/scan.rt:152:9
 new-requires : tie.Need-new-requires Inv-loop μ-loop
 new-requires c κs = search needs
 
--- src/scan.rt:154:5
 loop-holds : tie.Need-loop-holds Inv-loop μ-loop
 unfolding calculateFreeableSpace listing
 loop-holds c = (omega arith, omega arith, rw (c .new .ensures) (gate-on _ _ _ (c .before .before .check .ensures) (c .before .if1 .left)))
 
--- src/scan.rt:155:13
 next-requires : tie.Need-next-requires Inv-loop μ-loop
 next-requires c κs = search needs
 
--- src/scan.rt:157:27
 enum-known-n : tie.Need-enum-known-n Inv-loop μ-loop
 enum-known-n c = search needs
 
--- src/scan.rt:157:33
 returns-2 : tie.Need-returns-2 Inv-loop μ-loop
 returns-2 c = sym (c .before .before .before .before .loop .inv .2 ∙ sum-broken _ _ (sym (c .before .before .before .before .before .before .before .check .ensures) ∙ c .before .before .before .before .before .before .if1 .left) _ _ (c .before .before .before .next .ensures) _ _ (c .before .n .given .1))
 
--- src/scan.rt:158:27
 enum-told : tie.Need-enum-told Inv-loop μ-loop
 enum-told c = search needs
 
--- src/scan.rt:158:27
 sum-requires : tie.Need-sum-requires Inv-loop μ-loop
 sum-requires c κs = omega (arith, c .before .before .before .loop .inv)
 
--- src/scan.rt:158:27
 returns-3 : tie.Need-returns-3 Inv-loop μ-loop
 returns-3 c = c .sum .ensures ∙ sym (c .before .before .before .before .loop .inv .2 ∙ sum-free _ _ (sym (c .before .before .before .before .before .before .before .check .ensures) ∙ c .before .before .before .before .before .before .if1 .left) _ _ (c .before .before .before .next .ensures) _ (c .before .enum-told .given .1))
 
--- src/scan.rt:159:26
 enum-told-2 : tie.Need-enum-told-2 Inv-loop μ-loop
 enum-told-2 c = search needs
 
--- src/scan.rt:159:26
 sum-requires-2 : tie.Need-sum-requires-2 Inv-loop μ-loop
 sum-requires-2 c κs = omega (arith, c .before .before .before .loop .inv)
 
--- src/scan.rt:159:26
 returns-4 : tie.Need-returns-4 Inv-loop μ-loop
 returns-4 c = c .sum2 .ensures ∙ sym (c .before .before .before .before .loop .inv .2 ∙ sum-end _ _ (sym (c .before .before .before .before .before .before .before .check .ensures) ∙ c .before .before .before .before .before .before .if1 .left) _ _ (c .before .before .before .next .ensures) _ (c .before .enum-told2 .given .1))
 
--- src/scan.rt:160:26
 enum-known-n-2 : tie.Need-enum-known-n-2 Inv-loop μ-loop
 enum-known-n-2 c = search needs
 
--- src/scan.rt:161:37
 freeable-requires : tie.Need-freeable-requires Inv-loop μ-loop
 freeable-requires c κs = search needs
 
--- src/scan.rt:161:27
 add-deleted : tie.Need-add-deleted Inv-loop μ-loop
 add-deleted c = omega (arith, c .freeable .ensures .1, c .before .before .before .before .before .loop .inv)
 
--- src/scan.rt:154:5
 loop-less : tie.Need-loop-less Inv-loop μ-loop
 loop-less c = let v = next-moves _ _ _ _ _ (sym (c .before .before .before .before .next .ensures) ∙ c .before .before .n2 .given .1) in omega (arith, v .forward, v .within, header-some (c .before .before .before .before .before .before .before .before .before .before .args .g .granularity) (c .before .before .before .before .before .before .before .before .before .before .args .g .s))
 
--- src/scan.rt:154:5
 loop-again : tie.Need-loop-again Inv-loop μ-loop
 loop-again c =
     let v = next-found _ _ _ _ _ (sym (c .before .before .before .before .next .ensures) ∙ c .before .before .n2 .given .1) in

@@ -7,8 +7,6 @@ use lib.Seq.{take-all}
 use Rattle.blocks.specs.Scan.{writtenIn}
 use Rattle.blocks.proofs.scan.last_written.Statement.{statement}
 use Rattle.blocks.proofs.scan.last_written.Tie as tie
-use Rattle.blocks.proofs.scan.last_written.Reads as reads
-use Rattle.blocks.proofs.scan.last_written.Lts as lts
 
 abbrev Inv-loop : tie.InvT-loop
 Inv-loop part n₀ n = (n ≤ length part) × (writtenIn part ≡ writtenIn (take n part))
@@ -16,35 +14,27 @@ Inv-loop part n₀ n = (n ≤ length part) × (writtenIn part ≡ writtenIn (tak
 abbrev μ-loop : tie.MeasureT-loop
 μ-loop part n₀ n = n
 
--- src/scan.rt:32:5
 loop-holds : tie.Need-loop-holds Inv-loop μ-loop
 loop-holds c = (omega arith, ap writtenIn (sym (take-all (length (c .args .part .now)) (c .args .part .now) (omega arith))))
 
--- src/scan.rt:33:17
 sub-if1 : tie.Need-sub-if1 Inv-loop μ-loop
 sub-if1 c = omega arith
 
--- src/scan.rt:33:12
 shared-slice-read-if1 : tie.Need-shared-slice-read-if1 Inv-loop μ-loop
 shared-slice-read-if1 c = omega arith
 
--- src/scan.rt:34:13
 returns : tie.Need-returns Inv-loop μ-loop
 returns c = sym (c .before .before .before .loop .inv .1 ∙ written-here _ _ (c .before .before .loop-test .taken) (c .before .before .before .loop .inv .0) (c .if1 .taken))
 
--- src/scan.rt:36:9
 sub-n : tie.Need-sub-n Inv-loop μ-loop
 sub-n c = omega arith
 
--- src/scan.rt:32:5
 loop-less : tie.Need-loop-less Inv-loop μ-loop
 loop-less c = omega arith
 
--- src/scan.rt:32:5
 loop-again : tie.Need-loop-again Inv-loop μ-loop
 loop-again c = (omega arith, c .before .before .before .loop .inv .1 ∙ written-less _ _ (c .before .before .loop-test .taken) (c .before .before .before .loop .inv .0) (c .if1 .left))
 
--- src/scan.rt:28:1
 returns-2 : tie.Need-returns-2 Inv-loop μ-loop
 returns-2 c = let e : c .before .loop .n ≡ 0 = omega arith in sym (c .before .loop .inv .1 ∙ rw e)
 

@@ -9,12 +9,6 @@ use Rattle.blocks.specs.Scan.{listed}
 use Rattle.blocks.proofs.Scans.{scan-more, scan-free, scan-end, scan-broken}
 use Rattle.blocks.proofs.scan.list.Statement.{statement}
 use Rattle.blocks.proofs.scan.list.Tie as tie
-use Rattle.blocks.proofs.scan.list.Reads as reads
-use Rattle.blocks.proofs.scan.list.Lts as lts
-use Rattle.blocks.proofs.scan.stopped.Reads as stopped-reads
-use Rattle.objects.proofs.iterator.ObjectIterator.new.Reads as new-reads
-use Rattle.objects.proofs.iterator.ObjectIterator.next.Reads as next-reads
-use Rattle.objects.proofs.state.CompositeObjectState.rank.Reads as rank-reads
 
 abbrev Inv-loop : tie.InvT-loop
 Inv-loop g image block h i₀ allocated₀ i allocated = listed h false (listing g block image) ≡ listed h allocated (listFrom (g .size) g i image)
@@ -22,64 +16,49 @@ Inv-loop g image block h i₀ allocated₀ i allocated = listed h false (listing
 abbrev μ-loop : tie.MeasureT-loop
 μ-loop g image block h i₀ allocated₀ i allocated = g .size - i .location .offset
 
--- src/scan.rt:81:9
 new-requires : tie.Need-new-requires Inv-loop μ-loop
 new-requires c κs = search needs
 
--- src/scan.rt:83:5
 loop-holds : tie.Need-loop-holds Inv-loop μ-loop
 unfolding listing
 loop-holds c = rw (c .new .ensures)
 
--- src/scan.rt:84:13
 next-requires : tie.Need-next-requires Inv-loop μ-loop
 next-requires c κs = search needs
 
--- src/scan.rt:86:27
 enum-known-n : tie.Need-enum-known-n Inv-loop μ-loop
 enum-known-n c = search needs
 
--- src/scan.rt:86:33
 returns : tie.Need-returns Inv-loop μ-loop
 returns c = sym (c .before .before .before .before .loop .inv ∙ scan-broken _ _ (c .before .before .before .before .before .before .before .pre) _ _ (c .before .before .before .next .ensures) _ _ _ (c .before .n .given .1))
 
--- src/scan.rt:87:27
 enum-told : tie.Need-enum-told Inv-loop μ-loop
 enum-told c = search needs
 
--- src/scan.rt:87:27
 stopped-requires : tie.Need-stopped-requires Inv-loop μ-loop
 stopped-requires c κs = search needs
 
--- src/scan.rt:87:27
 returns-2 : tie.Need-returns-2 Inv-loop μ-loop
 returns-2 c = c .stopped .ensures ∙ sym (c .before .before .before .before .loop .inv ∙ scan-free _ _ (c .before .before .before .before .before .before .before .pre) _ _ (c .before .before .before .next .ensures) _ _ (c .before .enum-told .given .1))
 
--- src/scan.rt:88:26
 enum-told-2 : tie.Need-enum-told-2 Inv-loop μ-loop
 enum-told-2 c = search needs
 
--- src/scan.rt:88:26
 stopped-requires-2 : tie.Need-stopped-requires-2 Inv-loop μ-loop
 stopped-requires-2 c κs = search needs
 
--- src/scan.rt:88:26
 returns-3 : tie.Need-returns-3 Inv-loop μ-loop
 returns-3 c = c .stopped2 .ensures ∙ sym (c .before .before .before .before .loop .inv ∙ scan-end _ _ (c .before .before .before .before .before .before .before .pre) _ _ (c .before .before .before .next .ensures) _ _ (c .before .enum-told2 .given .1))
 
--- src/scan.rt:89:26
 enum-known-n-2 : tie.Need-enum-known-n-2 Inv-loop μ-loop
 enum-known-n-2 c = search needs
 
--- src/scan.rt:91:29
 rank-requires : tie.Need-rank-requires Inv-loop μ-loop
 rank-requires c κs = search needs
 
--- src/scan.rt:83:5
 loop-less : tie.Need-loop-less Inv-loop μ-loop
 loop-less c = let v = next-moves _ _ _ _ _ (sym (c .before .before .before .before .next .ensures) ∙ c .before .before .n2 .given .1) in omega (arith, v .forward, v .within, header-some (c .before .before .before .before .before .before .before .before .args .g .granularity) (c .before .before .before .before .before .before .before .before .args .g .s))
 
--- src/scan.rt:83:5
 loop-again : tie.Need-loop-again Inv-loop μ-loop
 loop-again c = c .before .before .before .before .before .loop .inv ∙ scan-more _ _ (c .before .before .before .before .before .before .before .before .pre) _ _ (c .before .before .before .before .next .ensures) _ _ _ _ (c .before .before .n2 .given .1) ∙ rw (c .rank .ensures)
 

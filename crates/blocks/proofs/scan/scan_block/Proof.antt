@@ -5,63 +5,44 @@ use Rattle.blocks.proofs.Headers.{check-of-header}
 use borrow.Author.Needs.{needs}
 use Rattle.blocks.proofs.scan.scan_block.Statement.{statement}
 use Rattle.blocks.proofs.scan.scan_block.Tie as tie
-use Rattle.blocks.proofs.scan.scan_block.Reads as reads
-use Rattle.blocks.proofs.scan.scan_block.Lts as lts
-use Rattle.blocks.proofs.header.BlockHeader.read.Reads as read-reads
-use Rattle.blocks.proofs.header.BlockHeaderRead.number.Reads as number-reads
-use Rattle.blocks.proofs.scan.list.Reads as list-reads
-use Rattle.blocks.proofs.scan.scan_unknown.Reads as scan-unknown-reads
 
--- src/scan.rt:102:9
 read-requires : tie.Need-read-requires
 read-requires c κs = search needs
 
--- src/scan.rt:103:30
 enum-known-got : tie.Need-enum-known-got
 enum-known-got c = search needs
 
--- src/scan.rt:104:39
 enum-told : tie.Need-enum-told
 enum-told c = search needs
 
--- src/scan.rt:104:39
 number-requires : tie.Need-number-requires
 number-requires c κs = search needs
 
--- src/scan.rt:104:9
 returns : tie.Need-returns
 unfolding scanBlock
 returns c = rw (← c .before .before .before .read .ensures, c .before .enum-told .given .1, c .number .ensures, c .before .enum-told .given .1)
 
--- src/scan.rt:108:35
 enum-told-2 : tie.Need-enum-told-2
 enum-told-2 c = search needs
 
--- src/scan.rt:109:37
 enum-told-3 : tie.Need-enum-told-3
 enum-told-3 c = search needs
 
--- src/scan.rt:109:37
 scan-unknown-requires : tie.Need-scan-unknown-requires
 scan-unknown-requires c κs = search needs
 
--- src/scan.rt:110:38
 enum-told-4 : tie.Need-enum-told-4
 enum-told-4 c = search needs
 
--- src/scan.rt:110:38
 list-requires : tie.Need-list-requires
 list-requires c κs = check-of-header _ _ _ _ (sym (rw (c .before .before .before .got .given .1) at (c .before .before .before .before .before .read .ensures)))
 
--- src/scan.rt:99:1
 returns-2 : tie.Need-returns-2
 returns-2 c = sym (scan-by _ _ _ _ _ (sym (rw (c .before .before .before .got .given .1) at (c .before .before .before .before .before .read .ensures))) (c .enum-told2 .given .1))
 
--- src/scan.rt:99:1
 returns-3 : tie.Need-returns-3
 returns-3 c = c .scan-unknown .ensures ∙ sym (scan-by _ _ _ _ _ (sym (rw (c .before .before .before .before .got .given .1) at (c .before .before .before .before .before .before .read .ensures))) (c .before .enum-told3 .given .1))
 
--- src/scan.rt:99:1
 returns-4 : tie.Need-returns-4
 returns-4 c = c .list .ensures ∙ sym (scan-by _ _ _ _ _ (sym (rw (c .before .before .before .before .got .given .1) at (c .before .before .before .before .before .before .read .ensures))) (c .before .enum-told4 .given .1))
 

@@ -8,48 +8,34 @@ use Rattle.blocks.proofs.Scans.{unknown-unreached, unknown-told, writte
 use borrow.Author.Needs.{needs}
 use Rattle.blocks.proofs.scan.scan_unknown.Statement.{statement}
 use Rattle.blocks.proofs.scan.scan_unknown.Tie as tie
-use Rattle.blocks.proofs.scan.scan_unknown.Reads as reads
-use Rattle.blocks.proofs.scan.scan_unknown.Lts as lts
-use Rattle.blocks.proofs.format.reach.Reads as reach-reads
-use Rattle.blocks.proofs.scan.last_written.Reads as last-written-reads
 
--- src/scan.rt:44:9
 reach-requires : tie.Need-reach-requires
 reach-requires c κs = search needs
 
--- src/scan.rt:46:9
 returns : tie.Need-returns
 returns c = sym (unknown-unreached _ _ _ _ _ (c .before .reach .ensures) (c .if1 .taken))
 
--- src/scan.rt:48:16
 cast-size : tie.Need-cast-size
 cast-size c = search needs
 
--- src/scan.rt:49:14
 mul-at : tie.Need-mul-at
 mul-at c = let h = erase-at _ _ _ _ (c .before .before .reach .ensures) (c .before .if1 .left) in omega arith
 
--- src/scan.rt:50:40
 add-last-written : tie.Need-add-last-written
 add-last-written c = let h = erase-at _ _ _ _ (c .before .before .reach .ensures) (c .before .if1 .left) in omega arith
 
--- src/scan.rt:50:29
 sub-last-written : tie.Need-sub-last-written
 sub-last-written c = search needs
 
--- src/scan.rt:50:29
 part-last-written-start : tie.Need-part-last-written-start
 part-last-written-start c = search needs
 
--- src/scan.rt:50:29
 part-last-written-end : tie.Need-part-last-written-end
 part-last-written-end c = let h = erase-at _ _ _ _ (c .before .before .reach .ensures) (c .before .if1 .left) in omega arith
 
--- src/scan.rt:50:9
 last-written-requires : tie.Need-last-written-requires
 last-written-requires c κs = search needs
 
--- src/scan.rt:53:21
 cast-t15 : tie.Need-cast-t15
 cast-t15 c =
     let a = c .before .before .before .before .before .before .args .block * c .before .before .before .before .before .before .args .g .size in
@@ -58,7 +44,6 @@ cast-t15 c =
     let f = reach-fine _ _ _ _ (c .before .before .before .before .reach .ensures) (c .before .before .before .if1 .left) in
     omega (arith, c .last-written .ensures, written-most (take n (drop a (c .before .before .before .before .before .before .args .image .now))), length-take n (drop a (c .before .before .before .before .before .before .args .image .now)), f .sound .small)
 
--- src/scan.rt:41:1
 returns-2 : tie.Need-returns-2
 returns-2 c = let n : c .before .before .before .before .before .before .args .block * c .before .before .before .before .before .before .args .g .size + c .before .before .before .before .before .before .args .g .size - (c .before .before .before .before .before .before .args .block * c .before .before .before .before .before .before .args .g .size) ≡ c .before .before .before .before .before .before .args .g .size = omega arith in sym (unknown-told _ _ _ _ _ (c .before .before .before .before .reach .ensures) _ _ _ refl n (c .last-written .ensures) (c .before .before .before .if1 .left))
 

@@ -5,49 +5,34 @@ use Rattle.cface.proofs.block_calls.stumpchoir_calculate_freeable_space
   statement,
 }
 use Rattle.cface.proofs.block_calls.stumpchoir_calculate_freeable_space.Tie as tie
-use Rattle.cface.proofs.block_calls.stumpchoir_calculate_freeable_space.Reads as reads
-use Rattle.cface.proofs.block_calls.stumpchoir_calculate_freeable_space.Lts as lts
-use Rattle.blocks.proofs.scan.calculate_freeable_space.Reads as calculate-freeable-space-reads
-use Rattle.crossing.proofs.call.GeometryRead.number.Reads as number-reads
-use Rattle.crossing.proofs.call.geometry_of.Reads as geometry-of-reads
 
--- src/block_calls.rt:214:9
 geometry-of-requires : tie.Need-geometry-of-requires
 geometry-of-requires c κs = search needs
 
--- src/block_calls.rt:215:27
 enum-known-told : tie.Need-enum-known-told
 enum-known-told c = search needs
 
--- src/block_calls.rt:216:9
 enum-told : tie.Need-enum-told
 enum-told c = search needs
 
--- src/block_calls.rt:216:9
 number-requires : tie.Need-number-requires
 number-requires c κs = search needs
 
--- src/block_calls.rt:216:9
 returns : tie.Need-returns
 returns c = rw (question-stop _ _ _ (c .before .before .before .geometry-of .ensures) (c .before .enum-told .given .1) (c .number .ensures)) (refl, refl)
 
--- src/block_calls.rt:218:9
 calculate-freeable-space-requires : tie.Need-calculate-freeable-space-requires
 calculate-freeable-space-requires c κs = search needs
 
--- src/block_calls.rt:220:24
 enum-known-a : tie.Need-enum-known-a
 enum-known-a c = search needs
 
--- src/block_calls.rt:224:26
 enum-known-a-2 : tie.Need-enum-known-a-2
 enum-known-a-2 c = search needs
 
--- src/block_calls.rt:200:1
 returns-2 : tie.Need-returns-2
 returns-2 c = rw (question-on _ _ _ (c .before .before .before .before .before .before .before .geometry-of .ensures) (c .before .before .before .before .before .told .given .1), ← c .before .before .before .calculate-freeable-space .ensures, c .before .a .given .1) (refl, refl)
 
--- src/block_calls.rt:200:1
 returns-3 : tie.Need-returns-3
 returns-3 c = rw (question-on _ _ _ (c .before .before .before .before .before .before .before .geometry-of .ensures) (c .before .before .before .before .before .told .given .1), ← c .before .before .before .calculate-freeable-space .ensures, c .before .a2 .given .1) (refl, refl)
 

@@ -2,51 +2,34 @@ use Rattle.crossing.proofs.Crossings.{store-on, store-stop}
 use borrow.Author.Needs.{needs}
 use Rattle.cface.proofs.block_calls.stumpchoir_format_storage.Statement.{statement}
 use Rattle.cface.proofs.block_calls.stumpchoir_format_storage.Tie as tie
-use Rattle.cface.proofs.block_calls.stumpchoir_format_storage.Reads as reads
-use Rattle.cface.proofs.block_calls.stumpchoir_format_storage.Lts as lts
-use Rattle.blocks.proofs.format.format_storage.Reads as format-storage-reads
-use Rattle.crossing.proofs.call.GeometryRead.number.Reads as number-reads
-use Rattle.crossing.proofs.call.fuse_of.Reads as fuse-of-reads
-use Rattle.crossing.proofs.call.geometry_of.Reads as geometry-of-reads
-use Rattle.crossing.proofs.call.hand_back.Reads as hand-back-reads
 
--- src/block_calls.rt:138:9
 geometry-of-requires : tie.Need-geometry-of-requires
 geometry-of-requires c κs = search needs
 
--- src/block_calls.rt:139:27
 enum-known-told : tie.Need-enum-known-told
 enum-known-told c = search needs
 
--- src/block_calls.rt:140:9
 enum-told : tie.Need-enum-told
 enum-told c = search needs
 
--- src/block_calls.rt:140:9
 number-requires : tie.Need-number-requires
 number-requires c κs = search needs
 
--- src/block_calls.rt:140:9
 returns : tie.Need-returns
 returns c = store-stop _ _ _ _ _ _ (c .before .before .before .geometry-of .ensures) (c .before .enum-told .given .1) (c .number .ensures)
 
--- src/block_calls.rt:142:9
 fuse-of-requires : tie.Need-fuse-of-requires
 fuse-of-requires c κs = search needs
 
--- src/block_calls.rt:143:9
 format-storage-requires : tie.Need-format-storage-requires
 format-storage-requires c κs = search needs
 
--- src/block_calls.rt:144:5
 hand-back-requires : tie.Need-hand-back-requires
 hand-back-requires c κs = search needs
 
--- src/block_calls.rt:125:1
 same-length : tie.Need-same-length
 same-length c = search needs
 
--- src/block_calls.rt:125:1
 returns-2 : tie.Need-returns-2
 returns-2 c = store-on _ _ _ _ _ _ (c .before .before .before .before .before .before .before .before .before .before .before .geometry-of .ensures) _ _ tt _ _ _ (c .before .before .before .before .before .before .before .before .before .told .given .1) (c .before .before .before .before .before .before .fuse-of .ensures) (c .before .before .before .before .format-storage .ensures) (c .hand-back .ensures .0) (c .hand-back .ensures .1)
 

@@ -3,42 +3,28 @@ use Rattle.crossing.proofs.Crossings.{question-on, question-stop}
 use borrow.Author.Needs.{needs}
 use Rattle.cface.proofs.block_calls.stumpchoir_scan_block.Statement.{statement}
 use Rattle.cface.proofs.block_calls.stumpchoir_scan_block.Tie as tie
-use Rattle.cface.proofs.block_calls.stumpchoir_scan_block.Reads as reads
-use Rattle.cface.proofs.block_calls.stumpchoir_scan_block.Lts as lts
-use Rattle.blocks.proofs.scan.scan_block.Reads as scan-block-reads
-use Rattle.crossing.proofs.call.GeometryRead.number.Reads as number-reads
-use Rattle.crossing.proofs.call.geometry_of.Reads as geometry-of-reads
-use Rattle.crossing.proofs.records.hand_record.Reads as hand-record-reads
 
--- src/block_calls.rt:162:9
 geometry-of-requires : tie.Need-geometry-of-requires
 geometry-of-requires c κs = search needs
 
--- src/block_calls.rt:163:27
 enum-known-told : tie.Need-enum-known-told
 enum-known-told c = search needs
 
--- src/block_calls.rt:164:9
 enum-told : tie.Need-enum-told
 enum-told c = search needs
 
--- src/block_calls.rt:164:9
 number-requires : tie.Need-number-requires
 number-requires c κs = search needs
 
--- src/block_calls.rt:164:9
 returns : tie.Need-returns
 returns c = rw (question-stop _ _ _ (c .before .before .before .geometry-of .ensures) (c .before .enum-told .given .1) (c .number .ensures)) (refl, refl)
 
--- src/block_calls.rt:166:9
 scan-block-requires : tie.Need-scan-block-requires
 scan-block-requires c κs = search needs
 
--- src/block_calls.rt:167:5
 hand-record-requires : tie.Need-hand-record-requires
 hand-record-requires c κs = search needs
 
--- src/block_calls.rt:148:1
 returns-2 : tie.Need-returns-2
 returns-2 c = rw (question-on _ _ _ (c .before .before .before .before .before .before .geometry-of .ensures) (c .before .before .before .before .told .given .1), ← c .before .before .scan-block .ensures) (c .hand-record .ensures)
 

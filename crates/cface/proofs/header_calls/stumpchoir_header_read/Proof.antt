@@ -3,59 +3,40 @@ use Rattle.crossing.proofs.Crossings.{question-on, question-stop}
 use borrow.Author.Needs.{needs}
 use Rattle.cface.proofs.header_calls.stumpchoir_header_read.Statement.{statement}
 use Rattle.cface.proofs.header_calls.stumpchoir_header_read.Tie as tie
-use Rattle.cface.proofs.header_calls.stumpchoir_header_read.Reads as reads
-use Rattle.cface.proofs.header_calls.stumpchoir_header_read.Lts as lts
-use Rattle.crossing.proofs.call.GeometryRead.number.Reads as crossing-GeometryRead-number-reads
-use Rattle.crossing.proofs.call.geometry_of.Reads as geometry-of-reads
-use Rattle.crossing.proofs.values.put_header.Reads as put-header-reads
-use Rattle.objects.proofs.header.HeaderRead.number.Reads as header-HeaderRead-number-reads
-use Rattle.objects.proofs.header.ObjectHeader.read.Reads as read-reads
 
--- src/header_calls.rt:32:9
 geometry-of-requires : tie.Need-geometry-of-requires
 geometry-of-requires c κs = search needs
 
--- src/header_calls.rt:33:27
 enum-known-told : tie.Need-enum-known-told
 enum-known-told c = search needs
 
--- src/header_calls.rt:34:9
 enum-told : tie.Need-enum-told
 enum-told c = search needs
 
--- src/header_calls.rt:34:9
 number-requires : tie.Need-number-requires
 number-requires c κs = search needs
 
--- src/header_calls.rt:34:9
 returns : tie.Need-returns
 returns c = rw (question-stop _ _ _ (c .before .before .before .geometry-of .ensures) (c .before .enum-told .given .1) (c .number .ensures)) (refl, refl)
 
--- src/header_calls.rt:40:9
 read-requires : tie.Need-read-requires
 read-requires c κs = search needs
 
--- src/header_calls.rt:41:25
 enum-known-a : tie.Need-enum-known-a
 enum-known-a c = search needs
 
--- src/header_calls.rt:42:9
 enum-told-2 : tie.Need-enum-told-2
 enum-told-2 c = search needs
 
--- src/header_calls.rt:42:9
 number-requires-2 : tie.Need-number-requires-2
 number-requires-2 c κs = search needs
 
--- src/header_calls.rt:42:9
 returns-2 : tie.Need-returns-2
 returns-2 c = rw (question-on _ _ _ (c .before .before .before .before .before .before .before .geometry-of .ensures) (c .before .before .before .before .before .told .given .1), ← c .before .before .before .read .ensures .0, c .number2 .ensures, c .before .enum-told2 .given .1) (refl, refl)
 
--- src/header_calls.rt:44:5
 put-header-requires : tie.Need-put-header-requires
 put-header-requires c κs = search needs
 
--- src/header_calls.rt:17:1
 returns-3 : tie.Need-returns-3
 returns-3 c = rw (question-on _ _ _ (c .before .before .before .before .before .before .before .before .before .geometry-of .ensures) (c .before .before .before .before .before .before .before .told .given .1), ← c .before .before .before .before .before .read .ensures .0, c .before .before .before .a .given .1) (refl, c .put-header .ensures)
 

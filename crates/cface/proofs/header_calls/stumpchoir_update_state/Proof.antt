@@ -3,95 +3,64 @@ use Rattle.crossing.proofs.Crossings.{got, named-none, under-on, under-stop, wi
 use borrow.Author.Needs.{needs}
 use Rattle.cface.proofs.header_calls.stumpchoir_update_state.Statement.{statement}
 use Rattle.cface.proofs.header_calls.stumpchoir_update_state.Tie as tie
-use Rattle.cface.proofs.header_calls.stumpchoir_update_state.Reads as reads
-use Rattle.cface.proofs.header_calls.stumpchoir_update_state.Lts as lts
-use Rattle.crossing.proofs.call.GeometryRead.number.Reads as crossing-GeometryRead-number-reads
-use Rattle.crossing.proofs.call.fuse_of.Reads as fuse-of-reads
-use Rattle.crossing.proofs.call.geometry_for.Reads as geometry-for-reads
-use Rattle.crossing.proofs.values.TargetRead.number.Reads as values-TargetRead-number-reads
-use Rattle.crossing.proofs.values.hand_back.Reads as hand-back-reads
-use Rattle.crossing.proofs.values.header_of.Reads as header-of-reads
-use Rattle.crossing.proofs.values.target_of.Reads as target-of-reads
-use Rattle.objects.proofs.header.HeaderRead.number.Reads as header-HeaderRead-number-reads
-use Rattle.objects.proofs.header.ObjectHeader.update_state.Reads as update-state-reads
 
--- src/header_calls.rt:64:9
 geometry-for-requires : tie.Need-geometry-for-requires
 geometry-for-requires c κs = search needs
 
--- src/header_calls.rt:65:27
 enum-known-told : tie.Need-enum-known-told
 enum-known-told c = search needs
 
--- src/header_calls.rt:66:9
 enum-told : tie.Need-enum-told
 enum-told c = search needs
 
--- src/header_calls.rt:66:9
 number-requires : tie.Need-number-requires
 number-requires c κs = search needs
 
--- src/header_calls.rt:66:9
 returns : tie.Need-returns
 returns c = with-stop _ _ _ _ _ _ _ (under-stop _ _ _ _ (named-none _ _ (c .before .before .before .geometry-for .ensures) (c .before .enum-told .given .1) (c .number .ensures)))
 
--- src/header_calls.rt:68:9
 header-of-requires : tie.Need-header-of-requires
 header-of-requires c κs = search needs
 
--- src/header_calls.rt:69:25
 enum-known-of : tie.Need-enum-known-of
 enum-known-of c = search needs
 
--- src/header_calls.rt:70:9
 enum-told-2 : tie.Need-enum-told-2
 enum-told-2 c = search needs
 
--- src/header_calls.rt:70:9
 number-requires-2 : tie.Need-number-requires-2
 number-requires-2 c κs = search needs
 
--- src/header_calls.rt:70:9
 returns-2 : tie.Need-returns-2
 returns-2 c = rw (c .number2 .ensures, c .before .enum-told2 .given .1) (with-stop _ _ _ _ _ _ _ (under-on _ _ _ _ (got _ _ (c .before .before .before .before .before .before .before .before .geometry-for .ensures) (c .before .before .before .before .before .before .told .given .1)) ∙ under-stop _ _ _ _ (sym (rw (c .before .enum-told2 .given .1) at (c .before .before .before .header-of .ensures)))))
 
--- src/header_calls.rt:72:9
 target-of-requires : tie.Need-target-of-requires
 target-of-requires c κs = search needs
 
--- src/header_calls.rt:73:25
 enum-known-target : tie.Need-enum-known-target
 enum-known-target c = search needs
 
--- src/header_calls.rt:74:9
 enum-told-3 : tie.Need-enum-told-3
 enum-told-3 c = search needs
 
--- src/header_calls.rt:74:9
 number-requires-3 : tie.Need-number-requires-3
 number-requires-3 c κs = search needs
 
--- src/header_calls.rt:74:9
 returns-3 : tie.Need-returns-3
 returns-3 c = rw (c .number3 .ensures, c .before .enum-told3 .given .1) (with-stop _ _ _ _ _ _ _ (under-on _ _ _ _ (got _ _ (c .before .before .before .before .before .before .before .before .before .before .before .before .geometry-for .ensures) (c .before .before .before .before .before .before .before .before .before .before .told .given .1)) ∙ under-on _ _ _ _ (sym (rw (c .before .before .before .before .before .of .given .1) at (c .before .before .before .before .before .before .before .header-of .ensures))) ∙ under-stop _ _ _ _ (sym (rw (c .before .enum-told3 .given .1) at (c .before .before .before .target-of .ensures)))))
 
--- src/header_calls.rt:76:9
 fuse-of-requires : tie.Need-fuse-of-requires
 fuse-of-requires c κs = search needs
 
--- src/header_calls.rt:77:9
 update-state-requires : tie.Need-update-state-requires
 update-state-requires c κs = search needs
 
--- src/header_calls.rt:78:5
 hand-back-requires : tie.Need-hand-back-requires
 hand-back-requires c κs = search needs
 
--- src/header_calls.rt:49:1
 same-length : tie.Need-same-length
 same-length c = search needs
 
--- src/header_calls.rt:49:1
 returns-4 : tie.Need-returns-4
 returns-4 c =
     with-on _ _ _ _ _ _ _ _ _ _

@@ -3,8 +3,6 @@ use Rattle.crossing.proofs.Crossings.{got, named-none, under-on, under-stop, wi
 use borrow.Author.Needs.{needs}
 use Rattle.cface.proofs.info_calls.stumpchoir_info_delete.Statement.{statement}
 use Rattle.cface.proofs.info_calls.stumpchoir_info_delete.Tie as tie
-use Rattle.cface.proofs.info_calls.stumpchoir_info_delete.Reads as reads
-use Rattle.cface.proofs.info_calls.stumpchoir_info_delete.Lts as lts
 
 geometry-for-requires : tie.Need-geometry-for-requires
 geometry-for-requires c κs = search needs

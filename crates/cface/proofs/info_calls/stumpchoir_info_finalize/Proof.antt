@@ -3,8 +3,6 @@ use Rattle.crossing.proofs.Crossings.{got, named-none, under-on, under-stop, wi
 use borrow.Author.Needs.{needs}
 use Rattle.cface.proofs.info_calls.stumpchoir_info_finalize.Statement.{statement}
 use Rattle.cface.proofs.info_calls.stumpchoir_info_finalize.Tie as tie
-use Rattle.cface.proofs.info_calls.stumpchoir_info_finalize.Reads as reads
-use Rattle.cface.proofs.info_calls.stumpchoir_info_finalize.Lts as lts
 
 geometry-for-requires : tie.Need-geometry-for-requires
 geometry-for-requires c κs = search needs

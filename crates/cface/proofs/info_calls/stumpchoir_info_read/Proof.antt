@@ -3,62 +3,43 @@ use Rattle.crossing.proofs.Crossings.{question-on, question-stop}
 use borrow.Author.Needs.{needs}
 use Rattle.cface.proofs.info_calls.stumpchoir_info_read.Statement.{statement}
 use Rattle.cface.proofs.info_calls.stumpchoir_info_read.Tie as tie
-use Rattle.cface.proofs.info_calls.stumpchoir_info_read.Reads as reads
-use Rattle.cface.proofs.info_calls.stumpchoir_info_read.Lts as lts
-use Rattle.crossing.proofs.call.GeometryRead.number.Reads as number-reads
-use Rattle.crossing.proofs.call.geometry_of.Reads as geometry-of-reads
-use Rattle.crossing.proofs.values.put_header.Reads as put-header-reads
-use Rattle.objects.proofs.info.read.Reads as read-reads
 
--- src/info_calls.rt:36:9
 geometry-of-requires : tie.Need-geometry-of-requires
 geometry-of-requires c κs = search needs
 
--- src/info_calls.rt:37:27
 enum-known-told : tie.Need-enum-known-told
 enum-known-told c = search needs
 
--- src/info_calls.rt:38:9
 enum-told : tie.Need-enum-told
 enum-told c = search needs
 
--- src/info_calls.rt:38:9
 number-requires : tie.Need-number-requires
 number-requires c κs = search needs
 
--- src/info_calls.rt:38:9
 returns : tie.Need-returns
 returns c = rw (question-stop _ _ _ (c .before .before .before .geometry-of .ensures) (c .before .enum-told .given .1) (c .number .ensures)) (refl, (refl, refl))
 
--- src/info_calls.rt:44:9
 read-requires : tie.Need-read-requires
 read-requires c κs = search needs
 
--- src/info_calls.rt:46:25
 enum-known-a : tie.Need-enum-known-a
 enum-known-a c = search needs
 
--- src/info_calls.rt:48:13
 put-header-requires : tie.Need-put-header-requires
 put-header-requires c κs = search needs
 
--- src/info_calls.rt:52:13
 enum-told-2 : tie.Need-enum-told-2
 enum-told-2 c = search needs
 
--- src/info_calls.rt:55:27
 enum-known-a-2 : tie.Need-enum-known-a-2
 enum-known-a-2 c = search needs
 
--- src/info_calls.rt:19:1
 returns-2 : tie.Need-returns-2
 returns-2 c = rw (question-on _ _ _ (c .before .before .before .before .before .before .before .before .before .geometry-of .ensures) (c .before .before .before .before .before .before .before .told .given .1), ← c .before .before .before .before .before .read .ensures .0, c .before .before .before .a .given .1) (refl, (refl, c .put-header .ensures))
 
--- src/info_calls.rt:19:1
 returns-3 : tie.Need-returns-3
 returns-3 c = rw (question-on _ _ _ (c .before .before .before .before .before .before .geometry-of .ensures) (c .before .before .before .before .told .given .1), ← c .before .before .read .ensures .0, c .enum-told2 .given .1) (refl, (refl, refl))
 
--- src/info_calls.rt:19:1
 returns-4 : tie.Need-returns-4
 returns-4 c = rw (question-on _ _ _ (c .before .before .before .before .before .before .before .geometry-of .ensures) (c .before .before .before .before .before .told .given .1), ← c .before .before .before .read .ensures .0, c .before .a2 .given .1) (refl, (refl, refl))
 

@@ -3,8 +3,6 @@ use Rattle.crossing.proofs.Crossings.{question-on, question-stop}
 use borrow.Author.Needs.{needs}
 use Rattle.cface.proofs.info_calls.stumpchoir_info_total_size.Statement.{statement}
 use Rattle.cface.proofs.info_calls.stumpchoir_info_total_size.Tie as tie
-use Rattle.cface.proofs.info_calls.stumpchoir_info_total_size.Reads as reads
-use Rattle.cface.proofs.info_calls.stumpchoir_info_total_size.Lts as lts
 
 geometry-alone-requires : tie.Need-geometry-alone-requires
 geometry-alone-requires c κs = search needs

@@ -3,42 +3,28 @@ use Rattle.crossing.proofs.Crossings.{question-on, question-stop}
 use borrow.Author.Needs.{needs}
 use Rattle.cface.proofs.iterator_calls.stumpchoir_iterator_new.Statement.{statement}
 use Rattle.cface.proofs.iterator_calls.stumpchoir_iterator_new.Tie as tie
-use Rattle.cface.proofs.iterator_calls.stumpchoir_iterator_new.Reads as reads
-use Rattle.cface.proofs.iterator_calls.stumpchoir_iterator_new.Lts as lts
-use Rattle.crossing.proofs.call.GeometryRead.number.Reads as number-reads
-use Rattle.crossing.proofs.call.geometry_alone.Reads as geometry-alone-reads
-use Rattle.crossing.proofs.values.put_iterator.Reads as put-iterator-reads
-use Rattle.objects.proofs.iterator.ObjectIterator.new.Reads as new-reads
 
--- src/iterator_calls.rt:27:9
 geometry-alone-requires : tie.Need-geometry-alone-requires
 geometry-alone-requires c κs = search needs
 
--- src/iterator_calls.rt:28:27
 enum-known-told : tie.Need-enum-known-told
 enum-known-told c = search needs
 
--- src/iterator_calls.rt:29:9
 enum-told : tie.Need-enum-told
 enum-told c = search needs
 
--- src/iterator_calls.rt:29:9
 number-requires : tie.Need-number-requires
 number-requires c κs = search needs
 
--- src/iterator_calls.rt:29:9
 returns : tie.Need-returns
 returns c = rw (question-stop _ _ _ (c .before .before .before .geometry-alone .ensures) (c .before .enum-told .given .1) (c .number .ensures)) (refl, refl)
 
--- src/iterator_calls.rt:31:26
 new-requires : tie.Need-new-requires
 new-requires c κs = search needs
 
--- src/iterator_calls.rt:31:5
 put-iterator-requires : tie.Need-put-iterator-requires
 put-iterator-requires c κs = search needs
 
--- src/iterator_calls.rt:14:1
 returns-2 : tie.Need-returns-2
 returns-2 c = rw (question-on _ _ _ (c .before .before .before .before .before .before .geometry-alone .ensures) (c .before .before .before .before .told .given .1)) (refl, rw (c .before .before .new .ensures) at (c .put-iterator .ensures))
 

@@ -3,80 +3,55 @@ use Rattle.crossing.proofs.Crossings.{question-on, question-stop}
 use borrow.Author.Needs.{needs}
 use Rattle.cface.proofs.iterator_calls.stumpchoir_iterator_next.Statement.{statement}
 use Rattle.cface.proofs.iterator_calls.stumpchoir_iterator_next.Tie as tie
-use Rattle.cface.proofs.iterator_calls.stumpchoir_iterator_next.Reads as reads
-use Rattle.cface.proofs.iterator_calls.stumpchoir_iterator_next.Lts as lts
-use Rattle.crossing.proofs.call.GeometryRead.number.Reads as number-reads
-use Rattle.crossing.proofs.call.geometry_of.Reads as geometry-of-reads
-use Rattle.crossing.proofs.values.iterator_of.Reads as iterator-of-reads
-use Rattle.crossing.proofs.values.put_header.Reads as put-header-reads
-use Rattle.crossing.proofs.values.put_iterator.Reads as put-iterator-reads
-use Rattle.objects.proofs.iterator.ObjectIterator.next.Reads as next-reads
 
--- src/iterator_calls.rt:53:9
 geometry-of-requires : tie.Need-geometry-of-requires
 geometry-of-requires c κs = search needs
 
--- src/iterator_calls.rt:54:27
 enum-known-told : tie.Need-enum-known-told
 enum-known-told c = search needs
 
--- src/iterator_calls.rt:55:9
 enum-told : tie.Need-enum-told
 enum-told c = search needs
 
--- src/iterator_calls.rt:55:9
 number-requires : tie.Need-number-requires
 number-requires c κs = search needs
 
--- src/iterator_calls.rt:55:9
 returns : tie.Need-returns
 returns c = rw (question-stop _ _ _ (c .before .before .before .geometry-of .ensures) (c .before .enum-told .given .1) (c .number .ensures)) (refl, (refl, (refl, refl)))
 
--- src/iterator_calls.rt:57:9
 iterator-of-requires : tie.Need-iterator-of-requires
 iterator-of-requires c κs = search needs
 
--- src/iterator_calls.rt:58:9
 next-requires : tie.Need-next-requires
 next-requires c κs = search needs
 
--- src/iterator_calls.rt:60:22
 enum-known-a : tie.Need-enum-known-a
 enum-known-a c = search needs
 
--- src/iterator_calls.rt:62:13
 put-header-requires : tie.Need-put-header-requires
 put-header-requires c κs = search needs
 
--- src/iterator_calls.rt:63:13
 put-iterator-requires : tie.Need-put-iterator-requires
 put-iterator-requires c κs = search needs
 
--- src/iterator_calls.rt:67:13
 enum-told-2 : tie.Need-enum-told-2
 enum-told-2 c = search needs
 
--- src/iterator_calls.rt:71:13
 enum-told-3 : tie.Need-enum-told-3
 enum-told-3 c = search needs
 
--- src/iterator_calls.rt:74:23
 enum-known-a-2 : tie.Need-enum-known-a-2
 enum-known-a-2 c = search needs
 
--- src/iterator_calls.rt:36:1
 returns-2 : tie.Need-returns-2
 returns-2 c = rw (question-on _ _ _ (c .before .before .before .before .before .before .before .before .before .before .before .before .before .geometry-of .ensures) (c .before .before .before .before .before .before .before .before .before .before .before .told .given .1), ← (rw (c .before .before .before .before .before .before .before .before .iterator-of .ensures) at (c .before .before .before .before .before .before .before .next .ensures)), c .before .before .before .before .before .a .given .1) (refl, (c .put-iterator .ensures, (refl, c .before .before .put-header .ensures)))
 
--- src/iterator_calls.rt:36:1
 returns-3 : tie.Need-returns-3
 returns-3 c = rw (question-on _ _ _ (c .before .before .before .before .before .before .before .before .geometry-of .ensures) (c .before .before .before .before .before .before .told .given .1), ← (rw (c .before .before .before .iterator-of .ensures) at (c .before .before .next .ensures)), c .enum-told2 .given .1) (refl, (refl, (refl, refl)))
 
--- src/iterator_calls.rt:36:1
 returns-4 : tie.Need-returns-4
 returns-4 c = rw (question-on _ _ _ (c .before .before .before .before .before .before .before .before .geometry-of .ensures) (c .before .before .before .before .before .before .told .given .1), ← (rw (c .before .before .before .iterator-of .ensures) at (c .before .before .next .ensures)), c .enum-told3 .given .1) (refl, (refl, (refl, refl)))
 
--- src/iterator_calls.rt:36:1
 returns-5 : tie.Need-returns-5
 returns-5 c = rw (question-on _ _ _ (c .before .before .before .before .before .before .before .before .before .geometry-of .ensures) (c .before .before .before .before .before .before .before .told .given .1), ← (rw (c .before .before .before .before .iterator-of .ensures) at (c .before .before .before .next .ensures)), c .before .a2 .given .1) (refl, (refl, (refl, refl)))
 

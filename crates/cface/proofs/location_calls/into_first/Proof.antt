@@ -4,53 +4,39 @@ use Rattle.cface.proofs.Conversions.{into-length, first-on, first-stop}
 use borrow.Author.Needs.{needs}
 use Rattle.cface.proofs.location_calls.into_first.Statement.{statement}
 use Rattle.cface.proofs.location_calls.into_first.Tie as tie
-use Rattle.cface.proofs.location_calls.into_first.Reads as reads
-use Rattle.cface.proofs.location_calls.into_first.Lts as lts
-use Rattle.medium.proofs.fuse.Answered.number.Reads as number-reads
-use Rattle.objects.proofs.location.ObjectLocation.into_bytes.Reads as into-bytes-reads
 
--- src/location_calls.rt:54:30
 slice-relend-prefix-into-bytes : tie.Need-slice-relend-prefix-into-bytes
 slice-relend-prefix-into-bytes c = search needs
 
--- src/location_calls.rt:54:30
 slice-aggregate-into-bytes : tie.Need-slice-aggregate-into-bytes
 slice-aggregate-into-bytes c = sym (length-take-le _ _ (c .before .before .pre .1))
 
--- src/location_calls.rt:54:9
 into-bytes-requires : tie.Need-into-bytes-requires
 into-bytes-requires c κs = search needs
 
 enum-told : tie.Need-enum-told
 enum-told c = search needs
 
--- src/location_calls.rt:56:9
 enum-told-2 : tie.Need-enum-told-2
 enum-told-2 c = search needs
 
--- src/location_calls.rt:56:9
 number-requires : tie.Need-number-requires
 number-requires c κs = search needs
 
--- src/location_calls.rt:56:9
 same-length : tie.Need-same-length
 same-length c = search needs
 
--- src/location_calls.rt:56:9
 returns : tie.Need-returns
 returns c =
     rw (c .number .ensures, c .before .enum-told2 .given .1)
     (first-stop _ (c .before .before .before .before .before .before .before .before .args .n) _ _ (c .before .before .before .before .before .before .before .before .args .bytes .now) (sym (rw (length-take-le _ _ (c .before .before .before .before .before .before .before .before .pre .1), c .before .enum-told2 .given .1) at (c .before .before .before .before .before .into-bytes .ensures .0))) (rw (c .before .enum-told2 .given .1) at (c .before .before .before .before .before .into-bytes .ensures .1)))
 
--- src/location_calls.rt:58:12
 cast-len : tie.Need-cast-len
 cast-len c = search needs
 
--- src/location_calls.rt:48:1
 same-length-2 : tie.Need-same-length-2
 same-length-2 c = search needs
 
--- src/location_calls.rt:48:1
 returns-2 : tie.Need-returns-2
 returns-2 c =
     let d = sym (rw (length-take-le _ _ (c .before .before .before .before .before .before .before .pre .1), c .enum-told .given .1) at (c .before .before .before .before .into-bytes .ensures .0)) in

@@ -3,59 +3,40 @@ use Rattle.crossing.proofs.Crossings.{question-on, question-stop}
 use borrow.Author.Needs.{needs}
 use Rattle.cface.proofs.location_calls.stumpchoir_location_from_bytes.Statement.{statement}
 use Rattle.cface.proofs.location_calls.stumpchoir_location_from_bytes.Tie as tie
-use Rattle.cface.proofs.location_calls.stumpchoir_location_from_bytes.Reads as reads
-use Rattle.cface.proofs.location_calls.stumpchoir_location_from_bytes.Lts as lts
-use Rattle.crossing.proofs.call.GeometryRead.number.Reads as crossing-GeometryRead-number-reads
-use Rattle.crossing.proofs.call.geometry_of.Reads as geometry-of-reads
-use Rattle.crossing.proofs.values.put_location.Reads as put-location-reads
-use Rattle.objects.proofs.location.LocationRead.number.Reads as location-LocationRead-number-reads
-use Rattle.objects.proofs.location.ObjectLocation.from_bytes.Reads as from-bytes-reads
 
--- src/location_calls.rt:63:9
 geometry-of-requires : tie.Need-geometry-of-requires
 geometry-of-requires c κs = search needs
 
--- src/location_calls.rt:64:27
 enum-known-told : tie.Need-enum-known-told
 enum-known-told c = search needs
 
--- src/location_calls.rt:65:9
 enum-told : tie.Need-enum-told
 enum-told c = search needs
 
--- src/location_calls.rt:65:9
 number-requires : tie.Need-number-requires
 number-requires c κs = search needs
 
--- src/location_calls.rt:65:9
 returns : tie.Need-returns
 returns c = rw (question-stop _ _ _ (c .before .before .before .geometry-of .ensures) (c .before .enum-told .given .1) (c .number .ensures)) (refl, refl)
 
--- src/location_calls.rt:67:9
 from-bytes-requires : tie.Need-from-bytes-requires
 from-bytes-requires c κs = search needs
 
--- src/location_calls.rt:68:27
 enum-known-a : tie.Need-enum-known-a
 enum-known-a c = search needs
 
--- src/location_calls.rt:69:9
 enum-told-2 : tie.Need-enum-told-2
 enum-told-2 c = search needs
 
--- src/location_calls.rt:69:9
 number-requires-2 : tie.Need-number-requires-2
 number-requires-2 c κs = search needs
 
--- src/location_calls.rt:69:9
 returns-2 : tie.Need-returns-2
 returns-2 c = rw (question-on _ _ _ (c .before .before .before .before .before .before .before .geometry-of .ensures) (c .before .before .before .before .before .told .given .1), ← c .before .before .before .from-bytes .ensures, c .number2 .ensures, c .before .enum-told2 .given .1) (refl, refl)
 
--- src/location_calls.rt:71:5
 put-location-requires : tie.Need-put-location-requires
 put-location-requires c κs = search needs
 
--- src/location_calls.rt:50:1
 returns-3 : tie.Need-returns-3
 returns-3 c = rw (question-on _ _ _ (c .before .before .before .before .before .before .before .before .before .geometry-of .ensures) (c .before .before .before .before .before .before .before .told .given .1), ← c .before .before .before .before .before .from-bytes .ensures, c .before .before .before .a .given .1) (refl, c .put-location .ensures)
 

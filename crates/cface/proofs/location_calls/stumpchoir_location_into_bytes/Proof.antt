@@ -4,51 +4,36 @@ use Rattle.crossing.proofs.Crossings.{got, alone-sound, question-on, question-s
 use borrow.Author.Needs.{needs}
 use Rattle.cface.proofs.location_calls.stumpchoir_location_into_bytes.Statement.{statement}
 use Rattle.cface.proofs.location_calls.stumpchoir_location_into_bytes.Tie as tie
-use Rattle.cface.proofs.location_calls.stumpchoir_location_into_bytes.Reads as reads
-use Rattle.cface.proofs.location_calls.stumpchoir_location_into_bytes.Lts as lts
-use Rattle.crossing.proofs.call.GeometryRead.number.Reads as number-reads
-use Rattle.crossing.proofs.call.geometry_alone.Reads as geometry-alone-reads
-use Rattle.cface.proofs.location_calls.into_first.Reads as into-first-reads
 
--- src/location_calls.rt:35:9
 geometry-alone-requires : tie.Need-geometry-alone-requires
 geometry-alone-requires c κs = search needs
 
--- src/location_calls.rt:36:27
 enum-known-told : tie.Need-enum-known-told
 enum-known-told c = search needs
 
--- src/location_calls.rt:37:9
 enum-told : tie.Need-enum-told
 enum-told c = search needs
 
--- src/location_calls.rt:37:9
 number-requires : tie.Need-number-requires
 number-requires c κs = search needs
 
--- src/location_calls.rt:37:9
 returns : tie.Need-returns
 returns c = rw (question-stop _ _ _ (c .before .before .before .geometry-alone .ensures) (c .before .enum-told .given .1) (c .number .ensures)) (refl, (refl, refl))
 
--- src/location_calls.rt:43:14
 cast-n : tie.Need-cast-n
 cast-n c = search needs
 
--- src/location_calls.rt:43:31
 cast-n-2 : tie.Need-cast-n-2
 cast-n-2 c = search needs
 
--- src/location_calls.rt:43:13
 add-n : tie.Need-add-n
 add-n c = search needs
 
--- src/location_calls.rt:44:5
 into-first-requires : tie.Need-into-first-requires
 into-first-requires c κs =
     let v = alone-sound _ _ _ _ _ _ (got _ _ (c .before .before .before .before .before .before .before .geometry-alone .ensures) (c .before .before .before .before .before .told .given .1)) in
     (omega (arith, v .s-most, v .c-most), omega (arith, v .s-most, v .c-most))
 
--- src/location_calls.rt:19:1
 returns-2 : tie.Need-returns-2
 returns-2 c = rw (question-on _ _ _ (c .before .before .before .before .before .before .before .before .geometry-alone .ensures) (c .before .before .before .before .before .before .told .given .1)) (c .into-first .ensures)
 

@@ -5,8 +5,6 @@ use Rattle.cface.proofs.Bounds.{read-cursor}
 use borrow.Author.Needs.{needs}
 use Rattle.cface.proofs.metadata_calls.stumpchoir_info_read_metadata.Statement.{statement}
 use Rattle.cface.proofs.metadata_calls.stumpchoir_info_read_metadata.Tie as tie
-use Rattle.cface.proofs.metadata_calls.stumpchoir_info_read_metadata.Reads as reads
-use Rattle.cface.proofs.metadata_calls.stumpchoir_info_read_metadata.Lts as lts
 
 geometry-for-requires : tie.Need-geometry-for-requires
 geometry-for-requires c κs = search needs

@@ -5,8 +5,6 @@ use Rattle.cface.proofs.Bounds.{at-cursor}
 use borrow.Author.Needs.{needs}
 use Rattle.cface.proofs.metadata_calls.stumpchoir_location_read_metadata.Statement.{statement}
 use Rattle.cface.proofs.metadata_calls.stumpchoir_location_read_metadata.Tie as tie
-use Rattle.cface.proofs.metadata_calls.stumpchoir_location_read_metadata.Reads as reads
-use Rattle.cface.proofs.metadata_calls.stumpchoir_location_read_metadata.Lts as lts
 
 geometry-of-requires : tie.Need-geometry-of-requires
 geometry-of-requires c κs = search needs

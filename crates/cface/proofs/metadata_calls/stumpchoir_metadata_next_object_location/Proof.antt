@@ -7,89 +7,61 @@ use Rattle.cface.proofs.metadata_calls.stumpchoir_metadata_next_object_
   statement,
 }
 use Rattle.cface.proofs.metadata_calls.stumpchoir_metadata_next_object_location.Tie as tie
-use Rattle.cface.proofs.metadata_calls.stumpchoir_metadata_next_object_location.Reads as reads
-use Rattle.cface.proofs.metadata_calls.stumpchoir_metadata_next_object_location.Lts as lts
-use Rattle.crossing.proofs.call.GeometryRead.number.Reads as crossing-GeometryRead-number-reads
-use Rattle.crossing.proofs.call.geometry_for.Reads as geometry-for-reads
-use Rattle.crossing.proofs.values.metadata_of.Reads as metadata-of-reads
-use Rattle.crossing.proofs.values.put_location.Reads as put-location-reads
-use Rattle.cface.proofs.outs.put_metadata.Reads as put-metadata-reads
-use Rattle.objects.proofs.metadata.MetadataObjectHeader.next_object_location.Reads as next-object-location-reads
-use Rattle.objects.proofs.metadata.MetadataRead.number.Reads as metadata-MetadataRead-number-reads
 
--- src/metadata_calls.rt:123:9
 geometry-for-requires : tie.Need-geometry-for-requires
 geometry-for-requires c κs = search needs
 
--- src/metadata_calls.rt:124:27
 enum-known-told : tie.Need-enum-known-told
 enum-known-told c = search needs
 
--- src/metadata_calls.rt:125:9
 enum-told : tie.Need-enum-told
 enum-told c = search needs
 
--- src/metadata_calls.rt:125:9
 number-requires : tie.Need-number-requires
 number-requires c κs = search needs
 
--- src/metadata_calls.rt:125:9
 returns : tie.Need-returns
 returns c = rw (question-stop _ _ _ (c .before .before .before .geometry-for .ensures) (c .before .enum-told .given .1) (c .number .ensures)) (refl, (refl, (refl, refl)))
 
--- src/metadata_calls.rt:127:9
 metadata-of-requires : tie.Need-metadata-of-requires
 metadata-of-requires c κs = search needs
 
--- src/metadata_calls.rt:128:27
 enum-known-of : tie.Need-enum-known-of
 enum-known-of c = search needs
 
--- src/metadata_calls.rt:129:9
 enum-told-2 : tie.Need-enum-told-2
 enum-told-2 c = search needs
 
--- src/metadata_calls.rt:129:9
 number-requires-2 : tie.Need-number-requires-2
 number-requires-2 c κs = search needs
 
--- src/metadata_calls.rt:129:9
 returns-2 : tie.Need-returns-2
 returns-2 c = rw (question-on _ _ _ (c .before .before .before .before .before .before .before .before .geometry-for .ensures) (c .before .before .before .before .before .before .told .given .1), ← c .before .before .before .metadata-of .ensures, c .number2 .ensures, c .before .enum-told2 .given .1) (refl, (refl, (refl, refl)))
 
--- src/metadata_calls.rt:131:9
 next-object-location-requires : tie.Need-next-object-location-requires
 next-object-location-requires c κs = search needs
 
--- src/metadata_calls.rt:133:26
 enum-known-a : tie.Need-enum-known-a
 enum-known-a c = search needs
 
--- src/metadata_calls.rt:135:13
 put-location-requires : tie.Need-put-location-requires
 put-location-requires c κs = search needs
 
--- src/metadata_calls.rt:136:13
 put-metadata-requires : tie.Need-put-metadata-requires
 put-metadata-requires c κs = omega (arith, past-fits _ _ _ (rw (c .before .before .before .before .a .given .1) at (c .before .before .before .before .before .before .next-object-location .ensures)))
 
--- src/metadata_calls.rt:140:13
 enum-told-3 : tie.Need-enum-told-3
 enum-told-3 c = search needs
 
--- src/metadata_calls.rt:143:31
 enum-known-a-2 : tie.Need-enum-known-a-2
 enum-known-a-2 c = search needs
 
--- src/metadata_calls.rt:106:1
 returns-3 : tie.Need-returns-3
 returns-3 c = rw (question-on _ _ _ (c .before .before .before .before .before .before .before .before .before .before .before .before .before .before .before .before .geometry-for .ensures) (c .before .before .before .before .before .before .before .before .before .before .before .before .before .before .told .given .1), ← c .before .before .before .before .before .before .before .before .before .before .before .metadata-of .ensures, c .before .before .before .before .before .before .before .before .before .of .given .1, ← c .before .before .before .before .before .before .before .next-object-location .ensures, c .before .before .before .before .before .a .given .1) (refl, (c .put-metadata .ensures, (refl, c .before .before .put-location .ensures)))
 
--- src/metadata_calls.rt:106:1
 returns-4 : tie.Need-returns-4
 returns-4 c = rw (question-on _ _ _ (c .before .before .before .before .before .before .before .before .before .before .before .geometry-for .ensures) (c .before .before .before .before .before .before .before .before .before .told .given .1), ← c .before .before .before .before .before .before .metadata-of .ensures, c .before .before .before .before .of .given .1, ← c .before .before .next-object-location .ensures, c .enum-told3 .given .1) (refl, (refl, (refl, refl)))
 
--- src/metadata_calls.rt:106:1
 returns-5 : tie.Need-returns-5
 returns-5 c = rw (question-on _ _ _ (c .before .before .before .before .before .before .before .before .before .before .before .before .geometry-for .ensures) (c .before .before .before .before .before .before .before .before .before .before .told .given .1), ← c .before .before .before .before .before .before .before .metadata-of .ensures, c .before .before .before .before .before .of .given .1, ← c .before .before .before .next-object-location .ensures, c .before .a2 .given .1) (refl, (refl, (refl, refl)))
 

@@ -5,8 +5,6 @@ use Rattle.crossing.proofs.Crossings.{question-on, question-stop}
 use borrow.Author.Needs.{needs}
 use Rattle.cface.proofs.metadata_calls.stumpchoir_metadata_reset.Statement.{statement}
 use Rattle.cface.proofs.metadata_calls.stumpchoir_metadata_reset.Tie as tie
-use Rattle.cface.proofs.metadata_calls.stumpchoir_metadata_reset.Reads as reads
-use Rattle.cface.proofs.metadata_calls.stumpchoir_metadata_reset.Lts as lts
 
 geometry-alone-requires : tie.Need-geometry-alone-requires
 geometry-alone-requires c κs = search needs

@@ -3,35 +3,25 @@ use native.Mathlib.Omega.{arith}
 use borrow.Author.Needs.{needs}
 use Rattle.cface.proofs.moving_calls.hand_total.Statement.{statement}
 use Rattle.cface.proofs.moving_calls.hand_total.Tie as tie
-use Rattle.cface.proofs.moving_calls.hand_total.Reads as reads
-use Rattle.cface.proofs.moving_calls.hand_total.Lts as lts
-use Rattle.crossing.proofs.call.hand_back.Reads as hand-back-reads
 
--- src/moving_calls.rt:66:21
 enum-known-told : tie.Need-enum-known-told
 enum-known-told c = search needs
 
--- src/moving_calls.rt:67:22
 cast-total : tie.Need-cast-total
 cast-total c = omega (arith, rw (c .before .told .given .1) at (c .before .before .before .pre))
 
--- src/moving_calls.rt:68:13
 hand-back-requires : tie.Need-hand-back-requires
 hand-back-requires c κs = search needs
 
--- src/moving_calls.rt:70:24
 enum-known-told-2 : tie.Need-enum-known-told-2
 enum-known-told-2 c = search needs
 
--- src/moving_calls.rt:70:33
 hand-back-requires-2 : tie.Need-hand-back-requires-2
 hand-back-requires-2 c κs = search needs
 
--- src/moving_calls.rt:59:1
 returns : tie.Need-returns
 returns c = rw (c .before .before .before .told .given .1) (c .hand-back .ensures .0, (c .hand-back .ensures .1, refl))
 
--- src/moving_calls.rt:59:1
 returns-2 : tie.Need-returns-2
 returns-2 c = rw (c .before .before .before .told2 .given .1) (c .hand-back2 .ensures .0, (c .hand-back2 .ensures .1, refl))
 

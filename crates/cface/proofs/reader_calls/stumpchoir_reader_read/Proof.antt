@@ -8,95 +8,68 @@ use Rattle.cface.proofs.Conversions.{chunk-on, chunk-stop}
 use borrow.Author.Needs.{needs}
 use Rattle.cface.proofs.reader_calls.stumpchoir_reader_read.Statement.{statement}
 use Rattle.cface.proofs.reader_calls.stumpchoir_reader_read.Tie as tie
-use Rattle.cface.proofs.reader_calls.stumpchoir_reader_read.Reads as reads
-use Rattle.cface.proofs.reader_calls.stumpchoir_reader_read.Lts as lts
-use Rattle.crossing.proofs.call.GeometryRead.number.Reads as crossing-GeometryRead-number-reads
-use Rattle.crossing.proofs.call.geometry_for.Reads as geometry-for-reads
-use Rattle.cface.proofs.outs.put_reader.Reads as put-reader-reads
-use Rattle.crossing.proofs.values.reader_of.Reads as reader-of-reads
-use Rattle.objects.proofs.reader.ObjectReader.read.Reads as read-reads
-use Rattle.objects.proofs.reader.ReaderRead.number.Reads as reader-ReaderRead-number-reads
 
--- src/reader_calls.rt:154:9
 geometry-for-requires : tie.Need-geometry-for-requires
 geometry-for-requires c κs = search needs
 
--- src/reader_calls.rt:155:27
 enum-known-told : tie.Need-enum-known-told
 enum-known-told c = search needs
 
--- src/reader_calls.rt:156:9
 enum-told : tie.Need-enum-told
 enum-told c = search needs
 
--- src/reader_calls.rt:156:9
 number-requires : tie.Need-number-requires
 number-requires c κs = search needs
 
--- src/reader_calls.rt:156:9
 returns : tie.Need-returns
 returns c = rw (question-stop _ _ _ (c .before .before .before .geometry-for .ensures) (c .before .enum-told .given .1) (c .number .ensures)) (refl, (refl, (refl, refl)))
 
--- src/reader_calls.rt:158:9
 reader-of-requires : tie.Need-reader-of-requires
 reader-of-requires c κs = search needs
 
--- src/reader_calls.rt:159:25
 enum-known-of : tie.Need-enum-known-of
 enum-known-of c = search needs
 
--- src/reader_calls.rt:160:9
 enum-told-2 : tie.Need-enum-told-2
 enum-told-2 c = search needs
 
--- src/reader_calls.rt:160:9
 number-requires-2 : tie.Need-number-requires-2
 number-requires-2 c κs = search needs
 
--- src/reader_calls.rt:160:9
 returns-2 : tie.Need-returns-2
 returns-2 c = rw (question-on _ _ _ (c .before .before .before .before .before .before .before .before .geometry-for .ensures) (c .before .before .before .before .before .before .told .given .1), ← c .before .before .before .reader-of .ensures, c .number2 .ensures, c .before .enum-told2 .given .1) (refl, (refl, (refl, refl)))
 
--- src/reader_calls.rt:162:9
 read-requires : tie.Need-read-requires
 read-requires c κs = search needs
 
--- src/reader_calls.rt:164:23
 enum-known-a : tie.Need-enum-known-a
 enum-known-a c = search needs
 
--- src/reader_calls.rt:165:21
 cast-read : tie.Need-cast-read
 cast-read c =
     let v = read-fits (c .before .before .before .before .before .before .before .before .before .before .before .before .before .told .given .0 .0) (c .before .before .before .before .before .before .before .before .of .given .0 .0) (length (c .before .before .before .before .before .before .before .before .before .before .before .before .before .before .before .before .before .before .args .buffer .now)) (c .before .before .before .before .before .before .before .before .before .before .before .before .before .before .before .before .before .before .args .image .now) (rw (c .before .a .given .1) at (c .before .before .before .before .before .read .ensures .0)) in
     omega (arith, v .0, c .before .before .before .before .before .before .before .known-told2 .given)
 
--- src/reader_calls.rt:166:13
 put-reader-requires : tie.Need-put-reader-requires
 put-reader-requires c κs =
     let v = read-fits (c .before .before .before .before .before .before .before .before .before .before .before .before .before .before .told .given .0 .0) (c .before .before .before .before .before .before .before .before .before .of .given .0 .0) (length (c .before .before .before .before .before .before .before .before .before .before .before .before .before .before .before .before .before .before .before .args .buffer .now)) (c .before .before .before .before .before .before .before .before .before .before .before .before .before .before .before .before .before .before .before .args .image .now) (rw (c .before .before .a .given .1) at (c .before .before .before .before .before .before .read .ensures .0)) in
     omega (arith, v .1, c .before .before .before .before .before .before .before .before .known-told2 .given)
 
--- src/reader_calls.rt:169:26
 enum-known-a-2 : tie.Need-enum-known-a-2
 enum-known-a-2 c = search needs
 
--- src/reader_calls.rt:137:1
 same-length : tie.Need-same-length
 same-length c = search needs
 
--- src/reader_calls.rt:137:1
 returns-3 : tie.Need-returns-3
 returns-3 c =
     let x = chunk-on (readSome (c .before .before .before .before .before .before .before .before .before .before .before .before .before .before .before .told .given .0 .0) (c .before .before .before .before .before .before .before .before .before .before .of .given .0 .0) (length (c .before .before .before .before .before .before .before .before .before .before .before .before .before .before .before .before .before .before .before .before .args .buffer .now)) (c .before .before .before .before .before .before .before .before .before .before .before .before .before .before .before .before .before .before .before .before .args .image .now)) (c .before .before .before .before .before .before .before .before .before .before .before .before .before .before .before .before .before .before .before .before .args .read .now) (c .before .before .before .before .before .before .before .before .before .before .before .before .before .before .before .before .before .before .before .before .args .reader .now) _ _ (rw (c .before .before .before .a .given .1) at (c .before .before .before .before .before .before .before .read .ensures .0)) in
     rw (question-on _ _ _ (c .before .before .before .before .before .before .before .before .before .before .before .before .before .before .before .before .before .geometry-for .ensures) (c .before .before .before .before .before .before .before .before .before .before .before .before .before .before .before .told .given .1), ← c .before .before .before .before .before .before .before .before .before .before .before .before .reader-of .ensures, c .before .before .before .before .before .before .before .before .before .before .of .given .1)
     (x .0, (c .put-reader .ensures ∙ x .1 .0, (c .before .before .before .before .before .before .before .read .ensures .1, x .1 .1)))
 
--- src/reader_calls.rt:137:1
 same-length-2 : tie.Need-same-length-2
 same-length-2 c = search needs
 
--- src/reader_calls.rt:137:1
 returns-4 : tie.Need-returns-4
 returns-4 c =
     let x = chunk-stop (readSome (c .before .before .before .before .before .before .before .before .before .before .before .before .before .told .given .0 .0) (c .before .before .before .before .before .before .before .before .of .given .0 .0) (length (c .before .before .before .before .before .before .before .before .before .before .before .before .before .before .before .before .before .before .args .buffer .now)) (c .before .before .before .before .before .before .before .before .before .before .before .before .before .before .before .before .before .before .args .image .now)) (c .before .before .before .before .before .before .before .before .before .before .before .before .before .before .before .before .before .before .args .read .now) (c .before .before .before .before .before .before .before .before .before .before .before .before .before .before .before .before .before .before .args .reader .now) _ (rw (c .before .a2 .given .1) at (c .before .before .before .before .before .read .ensures .0)) in

@@ -5,44 +5,32 @@ use Rattle.collector.specs.Passes.{erasing}
 use borrow.Author.Needs.{needs}
 use Rattle.collector.proofs.passes.act.Statement.{statement}
 use Rattle.collector.proofs.passes.act.Tie as tie
-use Rattle.collector.proofs.passes.act.Reads as reads
-use Rattle.collector.proofs.passes.act.Lts as lts
-use Rattle.collector.proofs.passes.erase.Reads as erase-reads
 
--- src/passes.rt:326:26
 enum-known-found : tie.Need-enum-known-found
 enum-known-found c = search needs
 
--- src/passes.rt:327:26
 enum-told : tie.Need-enum-told
 enum-told c = search needs
 
--- src/passes.rt:328:36
 enum-told-2 : tie.Need-enum-told-2
 enum-told-2 c = search needs
 
--- src/passes.rt:328:27
 erase-requires : tie.Need-erase-requires
 erase-requires c κs = search needs
 
--- src/passes.rt:320:1
 returns : tie.Need-returns
 returns c = rw (c .before .found .given .1) (sym (run-ask-in gc _ _ _))
 
--- src/passes.rt:320:1
 returns-2 : tie.Need-returns-2
 unfolding erasing
 returns-2 c = rw (c .enum-told .given .1) (sym (run-ask-in gc _ _ _))
 
--- src/passes.rt:320:1
 same-length : tie.Need-same-length
 same-length c = search needs
 
--- src/passes.rt:320:1
 same-length-2 : tie.Need-same-length-2
 same-length-2 c = search needs
 
--- src/passes.rt:320:1
 returns-3 : tie.Need-returns-3
 returns-3 c = rw (c .before .before .before .before .before .before .before .enum-told2 .given .1) (c .before .before .before .before .erase .ensures)
 

@@ -12,11 +12,6 @@ use Rattle.collector.specs.Passes.{deleting}
 use Rattle.collector.proofs.Repairs.{Left, left-free, left-end, left-broken, left-stop, left-done, left-more}
 use Rattle.collector.proofs.passes.delete_from.Statement.{statement}
 use Rattle.collector.proofs.passes.delete_from.Tie as tie
-use Rattle.collector.proofs.passes.delete_from.Reads as reads
-use Rattle.collector.proofs.passes.delete_from.Lts as lts
-use Rattle.collector.proofs.passes.visit.Reads as visit-reads
-use Rattle.objects.proofs.iterator.ObjectIterator.new.Reads as new-reads
-use Rattle.objects.proofs.iterator.ObjectIterator.next.Reads as next-reads
 
 abbrev Inv-loop : tie.InvT-loop
 Inv-loop g image₀ table₀ b used i₀ fuse₀ image table i fuse = (length image ≡ length image₀) × (length table ≡ length table₀) × Left g b used (run fuse₀ (deleting (g .size) g b used (startOf g b)) (both image₀ table₀)) i fuse (both image table)
@@ -24,111 +19,84 @@ Inv-loop g image₀ table₀ b used i₀ fuse₀ image table i fuse = (length im
 abbrev μ-loop : tie.MeasureT-loop
 μ-loop g image₀ table₀ b used i₀ fuse₀ image table i fuse = g .size - i .location .offset
 
--- src/passes.rt:152:9
 new-requires : tie.Need-new-requires Inv-loop μ-loop
 new-requires c κs = search needs
 
--- src/passes.rt:154:5
 loop-holds : tie.Need-loop-holds Inv-loop μ-loop
 loop-holds c = (refl, refl, record { fuel = c .before .before .before .args .g .size; enough = omega arith; same = rw (c .new .ensures) })
 
--- src/passes.rt:155:13
 next-requires : tie.Need-next-requires Inv-loop μ-loop
 next-requires c κs = search needs
 
--- src/passes.rt:157:27
 enum-known-n : tie.Need-enum-known-n Inv-loop μ-loop
 enum-known-n c = search needs
 
--- src/passes.rt:157:33
 same-length : tie.Need-same-length Inv-loop μ-loop
 same-length c = search needs
 
--- src/passes.rt:157:33
 same-length-2 : tie.Need-same-length-2 Inv-loop μ-loop
 same-length-2 c = search needs
 
--- src/passes.rt:157:33
 returns : tie.Need-returns Inv-loop μ-loop
 returns c = let o : checkOf (c .before .before .before .before .before .before .before .before .before .args .g) (length (c .before .before .before .before .before .loop .image)) ≡ 0 = rw (c .before .before .before .before .before .loop .inv .0) (c .before .before .before .before .before .before .before .before .before .pre .1) in sym (left-broken _ _ _ _ _ _ _ (c .before .before .before .before .before .loop .inv .2) o _ (c .before .before .before .next .ensures) _ (c .before .n .given .1))
 
--- src/passes.rt:158:27
 enum-told : tie.Need-enum-told Inv-loop μ-loop
 enum-told c = search needs
 
--- src/passes.rt:158:27
 same-length-3 : tie.Need-same-length-3 Inv-loop μ-loop
 same-length-3 c = search needs
 
--- src/passes.rt:158:27
 same-length-4 : tie.Need-same-length-4 Inv-loop μ-loop
 same-length-4 c = search needs
 
--- src/passes.rt:158:27
 returns-2 : tie.Need-returns-2 Inv-loop μ-loop
 returns-2 c = let o : checkOf (c .before .before .before .before .before .before .before .before .args .g) (length (c .before .before .before .before .loop .image)) ≡ 0 = rw (c .before .before .before .before .loop .inv .0) (c .before .before .before .before .before .before .before .before .pre .1) in sym (left-free _ _ _ _ _ _ _ (c .before .before .before .before .loop .inv .2) o _ (c .before .before .next .ensures) (c .enum-told .given .1))
 
--- src/passes.rt:159:26
 enum-told-2 : tie.Need-enum-told-2 Inv-loop μ-loop
 enum-told-2 c = search needs
 
--- src/passes.rt:159:26
 same-length-5 : tie.Need-same-length-5 Inv-loop μ-loop
 same-length-5 c = search needs
 
--- src/passes.rt:159:26
 same-length-6 : tie.Need-same-length-6 Inv-loop μ-loop
 same-length-6 c = search needs
 
--- src/passes.rt:159:26
 returns-3 : tie.Need-returns-3 Inv-loop μ-loop
 returns-3 c = let o : checkOf (c .before .before .before .before .before .before .before .before .args .g) (length (c .before .before .before .before .loop .image)) ≡ 0 = rw (c .before .before .before .before .loop .inv .0) (c .before .before .before .before .before .before .before .before .pre .1) in sym (left-end _ _ _ _ _ _ _ (c .before .before .before .before .loop .inv .2) o _ (c .before .before .next .ensures) (c .enum-told2 .given .1))
 
--- src/passes.rt:160:26
 enum-known-n-2 : tie.Need-enum-known-n-2 Inv-loop μ-loop
 enum-known-n-2 c = search needs
 
--- src/passes.rt:161:21
 visit-requires : tie.Need-visit-requires Inv-loop μ-loop
 visit-requires c κs = omega (arith, c .before .before .before .before .before .before .before .before .before .before .before .pre .0, c .before .before .before .before .before .before .before .loop .inv .1)
 
--- src/passes.rt:163:34
 enum-known-a : tie.Need-enum-known-a Inv-loop μ-loop
 enum-known-a c = search needs
 
--- src/passes.rt:164:21
 enum-told-3 : tie.Need-enum-told-3 Inv-loop μ-loop
 enum-told-3 c = search needs
 
--- src/passes.rt:164:21
 same-length-7 : tie.Need-same-length-7 Inv-loop μ-loop
 same-length-7 c = search needs
 
--- src/passes.rt:164:21
 same-length-8 : tie.Need-same-length-8 Inv-loop μ-loop
 same-length-8 c = search needs
 
--- src/passes.rt:164:21
 returns-4 : tie.Need-returns-4 Inv-loop μ-loop
 returns-4 c = let o : checkOf (c .before .before .before .before .before .before .before .before .before .before .before .before .before .before .before .before .before .before .args .g) (length (c .before .before .before .before .before .before .before .before .before .before .before .before .before .before .loop .image)) ≡ 0 = rw (c .before .before .before .before .before .before .before .before .before .before .before .before .before .before .loop .inv .0) (c .before .before .before .before .before .before .before .before .before .before .before .before .before .before .before .before .before .before .pre .1) in rw (c .enum-told3 .given .1) (sym (left-stop _ _ _ _ _ _ _ (c .before .before .before .before .before .before .before .before .before .before .before .before .before .before .loop .inv .2) o _ (c .before .before .before .before .before .before .before .before .before .before .before .before .next .ensures) _ _ (c .before .before .before .before .before .before .before .before .before .before .n2 .given .1) _ _ _ _ (c .before .before .before .before .before .before .visit .ensures) (c .enum-told3 .given .1)))
 
--- src/passes.rt:154:5
 loop-less : tie.Need-loop-less Inv-loop μ-loop
 loop-less c = let v = next-moves _ _ _ _ _ (sym (c .before .before .before .before .before .before .before .before .before .before .before .before .before .before .next .ensures) ∙ c .before .before .before .before .before .before .before .before .before .before .before .before .n2 .given .1) in omega (arith, v .forward, v .within, header-some (c .before .before .before .before .before .before .before .before .before .before .before .before .before .before .before .before .before .before .before .before .args .g .granularity) (c .before .before .before .before .before .before .before .before .before .before .before .before .before .before .before .before .before .before .before .before .args .g .s))
 
--- src/passes.rt:154:5
 loop-again : tie.Need-loop-again Inv-loop μ-loop
 loop-again c = let o : checkOf (c .before .before .before .before .before .before .before .before .before .before .before .before .before .before .before .before .before .before .before .before .args .g) (length (c .before .before .before .before .before .before .before .before .before .before .before .before .before .before .before .before .loop .image)) ≡ 0 = rw (c .before .before .before .before .before .before .before .before .before .before .before .before .before .before .before .before .loop .inv .0) (c .before .before .before .before .before .before .before .before .before .before .before .before .before .before .before .before .before .before .before .before .pre .1) in (search needs, search needs, left-more _ _ _ _ _ _ _ (c .before .before .before .before .before .before .before .before .before .before .before .before .before .before .before .before .loop .inv .2) o _ (c .before .before .before .before .before .before .before .before .before .before .before .before .before .before .next .ensures) _ _ (c .before .before .before .before .before .before .before .before .before .before .before .before .n2 .given .1) _ _ _ _ (c .before .before .before .before .before .before .before .before .visit .ensures) (c .before .before .a .given .1) (c .if1 .taken))
 
--- src/passes.rt:170:21
 same-length-9 : tie.Need-same-length-9 Inv-loop μ-loop
 same-length-9 c = search needs
 
--- src/passes.rt:170:21
 same-length-10 : tie.Need-same-length-10 Inv-loop μ-loop
 same-length-10 c = search needs
 
--- src/passes.rt:170:21
 returns-5 : tie.Need-returns-5 Inv-loop μ-loop
 returns-5 c = let o : checkOf (c .before .before .before .before .before .before .before .before .before .before .before .before .before .before .before .before .before .before .before .before .args .g) (length (c .before .before .before .before .before .before .before .before .before .before .before .before .before .before .before .before .loop .image)) ≡ 0 = rw (c .before .before .before .before .before .before .before .before .before .before .before .before .before .before .before .before .loop .inv .0) (c .before .before .before .before .before .before .before .before .before .before .before .before .before .before .before .before .before .before .before .before .pre .1) in sym (left-done _ _ _ _ _ _ _ (c .before .before .before .before .before .before .before .before .before .before .before .before .before .before .before .before .loop .inv .2) o _ (c .before .before .before .before .before .before .before .before .before .before .before .before .before .before .next .ensures) _ _ (c .before .before .before .before .before .before .before .before .before .before .before .before .n2 .given .1) _ _ _ _ (c .before .before .before .before .before .before .before .before .visit .ensures) (c .before .before .a .given .1) (c .if1 .left))
 

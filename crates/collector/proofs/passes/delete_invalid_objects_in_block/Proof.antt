@@ -5,43 +5,31 @@ use Rattle.collector.proofs.Repairs.{delete-by}
 use borrow.Author.Needs.{needs}
 use Rattle.collector.proofs.passes.delete_invalid_objects_in_block.Statement.{statement}
 use Rattle.collector.proofs.passes.delete_invalid_objects_in_block.Tie as tie
-use Rattle.collector.proofs.passes.delete_invalid_objects_in_block.Reads as reads
-use Rattle.collector.proofs.passes.delete_invalid_objects_in_block.Lts as lts
-use Rattle.collector.proofs.passes.delete_from.Reads as delete-from-reads
 
--- src/passes.rt:186:37
 enum-told : tie.Need-enum-told
 enum-told c = search needs
 
--- src/passes.rt:187:35
 enum-told-2 : tie.Need-enum-told-2
 enum-told-2 c = search needs
 
--- src/passes.rt:188:53
 enum-told-3 : tie.Need-enum-told-3
 enum-told-3 c = search needs
 
--- src/passes.rt:188:38
 delete-from-requires : tie.Need-delete-from-requires
 delete-from-requires c κs = search needs
 
--- src/passes.rt:178:1
 returns : tie.Need-returns
 returns c = sym (delete-by _ _ _ _ _ _ (c .enum-told .given .1) ∙ run-ask-in gc _ _ _)
 
--- src/passes.rt:178:1
 returns-2 : tie.Need-returns-2
 returns-2 c = sym (delete-by _ _ _ _ _ _ (c .enum-told2 .given .1) ∙ run-ask-in gc _ _ _)
 
--- src/passes.rt:178:1
 same-length : tie.Need-same-length
 same-length c = search needs
 
--- src/passes.rt:178:1
 same-length-2 : tie.Need-same-length-2
 same-length-2 c = search needs
 
--- src/passes.rt:178:1
 returns-3 : tie.Need-returns-3
 returns-3 c = c .before .before .before .before .delete-from .ensures ∙ sym (delete-by _ _ _ _ _ _ (c .before .before .before .before .before .before .before .enum-told3 .given .1))
 

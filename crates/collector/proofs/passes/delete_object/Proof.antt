@@ -3,34 +3,25 @@ use Rattle.medium.proofs.Runs.{on, stop, run-ask}
 use borrow.Author.Needs.{needs}
 use Rattle.collector.proofs.passes.delete_object.Statement.{statement}
 use Rattle.collector.proofs.passes.delete_object.Tie as tie
-use Rattle.collector.proofs.passes.delete_object.Reads as reads
-use Rattle.collector.proofs.passes.delete_object.Lts as lts
-use Rattle.objects.proofs.header.ObjectHeader.update_state.Reads as update-state-reads
 
--- src/passes.rt:59:9
 update-state-requires : tie.Need-update-state-requires
 update-state-requires c κs = search needs
 
 enum-told : tie.Need-enum-told
 enum-told c = search needs
 
--- src/passes.rt:62:9
 enum-told-2 : tie.Need-enum-told-2
 enum-told-2 c = search needs
 
--- src/passes.rt:62:9
 same-length : tie.Need-same-length
 same-length c = search needs
 
--- src/passes.rt:62:9
 returns : tie.Need-returns
 returns c = rw (c .enum-told2 .given .1) (sym (stop _ _ _ _ _ _ _ _ (c .before .before .before .before .update-state .ensures .0) (c .enum-told2 .given .1)))
 
--- src/passes.rt:56:1
 same-length-2 : tie.Need-same-length-2
 same-length-2 c = search needs
 
--- src/passes.rt:56:1
 returns-2 : tie.Need-returns-2
 returns-2 c = rw (c .enum-told .given .1) (sym (on _ _ _ _ _ _ _ _ (c .before .before .before .before .update-state .ensures .0) (c .enum-told .given .1) ∙ run-ask _ _ _))
 

@@ -5,43 +5,31 @@ use Rattle.collector.proofs.Erasing.{erase-by}
 use borrow.Author.Needs.{needs}
 use Rattle.collector.proofs.passes.erase.Statement.{statement}
 use Rattle.collector.proofs.passes.erase.Tie as tie
-use Rattle.collector.proofs.passes.erase.Reads as reads
-use Rattle.collector.proofs.passes.erase.Lts as lts
-use Rattle.collector.proofs.passes.renew.Reads as renew-reads
 
--- src/passes.rt:249:35
 enum-told : tie.Need-enum-told
 enum-told c = search needs
 
--- src/passes.rt:250:37
 enum-told-2 : tie.Need-enum-told-2
 enum-told-2 c = search needs
 
--- src/passes.rt:251:47
 enum-told-3 : tie.Need-enum-told-3
 enum-told-3 c = search needs
 
--- src/passes.rt:251:38
 renew-requires : tie.Need-renew-requires
 renew-requires c κs = search needs
 
--- src/passes.rt:241:1
 returns : tie.Need-returns
 returns c = sym (erase-by _ _ _ _ _ _ (c .enum-told .given .1) ∙ run-ask-in gc _ _ _)
 
--- src/passes.rt:241:1
 returns-2 : tie.Need-returns-2
 returns-2 c = sym (erase-by _ _ _ _ _ _ (c .enum-told2 .given .1) ∙ run-ask-in gc _ _ _)
 
--- src/passes.rt:241:1
 same-length : tie.Need-same-length
 same-length c = search needs
 
--- src/passes.rt:241:1
 same-length-2 : tie.Need-same-length-2
 same-length-2 c = search needs
 
--- src/passes.rt:241:1
 returns-3 : tie.Need-returns-3
 returns-3 c = c .before .before .before .before .renew .ensures ∙ sym (erase-by _ _ _ _ _ _ (c .before .before .before .before .before .before .before .enum-told3 .given .1))
 

@@ -6,49 +6,34 @@ use Rattle.collector.proofs.Erasing.{full-skip, full-act}
 use borrow.Author.Needs.{needs}
 use Rattle.collector.proofs.passes.erase_full_finished_block.Statement.{statement}
 use Rattle.collector.proofs.passes.erase_full_finished_block.Tie as tie
-use Rattle.collector.proofs.passes.erase_full_finished_block.Reads as reads
-use Rattle.collector.proofs.passes.erase_full_finished_block.Lts as lts
-use Rattle.collector.proofs.passes.act.Reads as act-reads
-use Rattle.collector.proofs.passes.find_deleted.Reads as find-deleted-reads
-use Rattle.medium.proofs.granularity.Granularity.object_header.Reads as object-header-reads
 
--- src/passes.rt:352:9
 cast-if1 : tie.Need-cast-if1
 cast-if1 c = search needs
 
--- src/passes.rt:352:28
 object-header-requires : tie.Need-object-header-requires
 object-header-requires c κs = search needs
 
--- src/passes.rt:352:8
 sub-if1 : tie.Need-sub-if1
 sub-if1 c = let h = fine-of-check _ _ _ refl (c .before .before .before .before .pre .1) in omega (arith, h .sound .least, h .sound .s-most, c .object-header .ensures, header-small (c .before .before .before .before .args .g .granularity) (c .before .before .before .before .args .g .s))
 
--- src/passes.rt:352:53
 cast-if1-2 : tie.Need-cast-if1-2
 cast-if1-2 c = search needs
 
--- src/passes.rt:353:9
 returns : tie.Need-returns
 returns c = sym (full-skip _ _ _ _ _ _ (rw (← c .before .before .object-header .ensures) (c .if1 .taken)))
 
--- src/passes.rt:355:9
 find-deleted-requires : tie.Need-find-deleted-requires
 find-deleted-requires c κs = search needs
 
--- src/passes.rt:356:5
 act-requires : tie.Need-act-requires
 act-requires c κs = search needs
 
--- src/passes.rt:346:1
 same-length : tie.Need-same-length
 same-length c = search needs
 
--- src/passes.rt:346:1
 same-length-2 : tie.Need-same-length-2
 same-length-2 c = search needs
 
--- src/passes.rt:346:1
 returns-2 : tie.Need-returns-2
 returns-2 c = c .before .before .before .before .act .ensures ∙ sym (full-act _ _ _ _ _ _ (rw (← c .before .before .before .before .before .before .before .before .before .before .before .object-header .ensures) (c .before .before .before .before .before .before .before .before .before .if1 .left)) _ (c .before .before .before .before .before .before .before .find-deleted .ensures))
 

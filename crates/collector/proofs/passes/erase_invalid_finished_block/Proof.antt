@@ -3,32 +3,22 @@ use Rattle.collector.proofs.Erasing.{invalid-skip, invalid-act}
 use borrow.Author.Needs.{needs}
 use Rattle.collector.proofs.passes.erase_invalid_finished_block.Statement.{statement}
 use Rattle.collector.proofs.passes.erase_invalid_finished_block.Tie as tie
-use Rattle.collector.proofs.passes.erase_invalid_finished_block.Reads as reads
-use Rattle.collector.proofs.passes.erase_invalid_finished_block.Lts as lts
-use Rattle.collector.proofs.passes.act.Reads as act-reads
-use Rattle.collector.proofs.passes.find_unfinished.Reads as find-unfinished-reads
 
--- src/passes.rt:339:9
 returns : tie.Need-returns
 returns c = sym (invalid-skip _ _ _ _ _ _ (c .if1 .taken))
 
--- src/passes.rt:341:9
 find-unfinished-requires : tie.Need-find-unfinished-requires
 find-unfinished-requires c κs = search needs
 
--- src/passes.rt:342:5
 act-requires : tie.Need-act-requires
 act-requires c κs = search needs
 
--- src/passes.rt:333:1
 same-length : tie.Need-same-length
 same-length c = search needs
 
--- src/passes.rt:333:1
 same-length-2 : tie.Need-same-length-2
 same-length-2 c = search needs
 
--- src/passes.rt:333:1
 returns-2 : tie.Need-returns-2
 returns-2 c = c .before .before .before .before .act .ensures ∙ sym (invalid-act _ _ _ _ _ _ (c .before .before .before .before .before .before .before .before .before .if1 .left) _ (c .before .before .before .before .before .before .before .find-unfinished .ensures))
 

@@ -8,11 +8,6 @@ use Rattle.collector.specs.Passes.{deletedIn}
 use Rattle.collector.proofs.Erasing.{deleted-free, deleted-end, deleted-broken, deleted-not, deleted-more}
 use Rattle.collector.proofs.passes.find_deleted.Statement.{statement}
 use Rattle.collector.proofs.passes.find_deleted.Tie as tie
-use Rattle.collector.proofs.passes.find_deleted.Reads as reads
-use Rattle.collector.proofs.passes.find_deleted.Lts as lts
-use Rattle.objects.proofs.iterator.ObjectIterator.new.Reads as new-reads
-use Rattle.objects.proofs.iterator.ObjectIterator.next.Reads as next-reads
-use Rattle.objects.proofs.state.CompositeObjectState.rank.Reads as rank-reads
 
 abbrev Inv-loop : tie.InvT-loop
 Inv-loop g image b i₀ i = deletedIn (listing g b image) ≡ deletedIn (listFrom (g .size) g i image)
@@ -20,60 +15,46 @@ Inv-loop g image b i₀ i = deletedIn (listing g b image) ≡ deletedIn (listFro
 abbrev μ-loop : tie.MeasureT-loop
 μ-loop g image b i₀ i = g .size - i .location .offset
 
--- src/passes.rt:290:9
 new-requires : tie.Need-new-requires Inv-loop μ-loop
 new-requires c κs = search needs
 
--- src/passes.rt:291:5
 loop-holds : tie.Need-loop-holds Inv-loop μ-loop
 unfolding listing
 loop-holds c = rw (c .new .ensures)
 
--- src/passes.rt:292:13
 next-requires : tie.Need-next-requires Inv-loop μ-loop
 next-requires c κs = search needs
 
--- src/passes.rt:294:27
 enum-known-n : tie.Need-enum-known-n Inv-loop μ-loop
 enum-known-n c = search needs
 
--- src/passes.rt:294:33
 returns : tie.Need-returns Inv-loop μ-loop
 returns c = sym (c .before .before .before .before .loop .inv ∙ deleted-broken _ _ (c .before .before .before .before .before .before .before .pre) _ _ (c .before .before .before .next .ensures) _ (c .before .n .given .1))
 
--- src/passes.rt:295:27
 enum-told : tie.Need-enum-told Inv-loop μ-loop
 enum-told c = search needs
 
--- src/passes.rt:295:27
 returns-2 : tie.Need-returns-2 Inv-loop μ-loop
 returns-2 c = sym (c .before .before .before .loop .inv ∙ deleted-free _ _ (c .before .before .before .before .before .before .pre) _ _ (c .before .before .next .ensures) (c .enum-told .given .1))
 
--- src/passes.rt:296:26
 enum-told-2 : tie.Need-enum-told-2 Inv-loop μ-loop
 enum-told-2 c = search needs
 
--- src/passes.rt:296:26
 returns-3 : tie.Need-returns-3 Inv-loop μ-loop
 returns-3 c = sym (c .before .before .before .loop .inv ∙ deleted-end _ _ (c .before .before .before .before .before .before .pre) _ _ (c .before .before .next .ensures) (c .enum-told2 .given .1))
 
--- src/passes.rt:297:26
 enum-known-n-2 : tie.Need-enum-known-n-2 Inv-loop μ-loop
 enum-known-n-2 c = search needs
 
--- src/passes.rt:299:20
 rank-requires : tie.Need-rank-requires Inv-loop μ-loop
 rank-requires c κs = search needs
 
--- src/passes.rt:300:21
 returns-4 : tie.Need-returns-4 Inv-loop μ-loop
 returns-4 c = sym (c .before .before .before .before .before .before .loop .inv ∙ deleted-not _ _ (c .before .before .before .before .before .before .before .before .before .pre) _ _ (c .before .before .before .before .before .next .ensures) _ _ (c .before .before .before .n2 .given .1) _ (c .before .rank .ensures) (c .if1 .taken))
 
--- src/passes.rt:291:5
 loop-less : tie.Need-loop-less Inv-loop μ-loop
 loop-less c = let v = next-moves _ _ _ _ _ (sym (c .before .before .before .before .before .next .ensures) ∙ c .before .before .before .n2 .given .1) in omega (arith, v .forward, v .within, header-some (c .before .before .before .before .before .before .before .before .before .args .g .granularity) (c .before .before .before .before .before .before .before .before .before .args .g .s))
 
--- src/passes.rt:291:5
 loop-again : tie.Need-loop-again Inv-loop μ-loop
 loop-again c = c .before .before .before .before .before .before .loop .inv ∙ deleted-more _ _ (c .before .before .before .before .before .before .before .before .before .pre) _ _ (c .before .before .before .before .before .next .ensures) _ _ (c .before .before .before .n2 .given .1) _ (c .before .rank .ensures) (c .if1 .left)
 

@@ -8,12 +8,6 @@ use Rattle.collector.specs.Passes.{unfinishedIn}
 use Rattle.collector.proofs.Erasing.{unfinished-free, unfinished-end, unfinished-broken, unfinished-here, unfinished-not, unfinished-more}
 use Rattle.collector.proofs.passes.find_unfinished.Statement.{statement}
 use Rattle.collector.proofs.passes.find_unfinished.Tie as tie
-use Rattle.collector.proofs.passes.find_unfinished.Reads as reads
-use Rattle.collector.proofs.passes.find_unfinished.Lts as lts
-use Rattle.collector.proofs.passes.find_last.Reads as find-last-reads
-use Rattle.objects.proofs.iterator.ObjectIterator.new.Reads as new-reads
-use Rattle.objects.proofs.iterator.ObjectIterator.next.Reads as next-reads
-use Rattle.objects.proofs.state.CompositeObjectState.rank.Reads as rank-reads
 
 abbrev Inv-loop : tie.InvT-loop
 Inv-loop g image b i₀ i = unfinishedIn (listing g b image) ≡ unfinishedIn (listFrom (g .size) g i image)
@@ -21,68 +15,52 @@ Inv-loop g image b i₀ i = unfinishedIn (listing g b image) ≡ unfinishedIn (l
 abbrev μ-loop : tie.MeasureT-loop
 μ-loop g image b i₀ i = g .size - i .location .offset
 
--- src/passes.rt:263:9
 new-requires : tie.Need-new-requires Inv-loop μ-loop
 new-requires c κs = search needs
 
--- src/passes.rt:264:5
 loop-holds : tie.Need-loop-holds Inv-loop μ-loop
 unfolding listing
 loop-holds c = rw (c .new .ensures)
 
--- src/passes.rt:265:13
 next-requires : tie.Need-next-requires Inv-loop μ-loop
 next-requires c κs = search needs
 
--- src/passes.rt:267:27
 enum-known-n : tie.Need-enum-known-n Inv-loop μ-loop
 enum-known-n c = search needs
 
--- src/passes.rt:267:33
 returns : tie.Need-returns Inv-loop μ-loop
 returns c = sym (c .before .before .before .before .loop .inv ∙ unfinished-broken _ _ (c .before .before .before .before .before .before .before .pre) _ _ (c .before .before .before .next .ensures) _ (c .before .n .given .1))
 
--- src/passes.rt:268:27
 enum-told : tie.Need-enum-told Inv-loop μ-loop
 enum-told c = search needs
 
--- src/passes.rt:268:27
 returns-2 : tie.Need-returns-2 Inv-loop μ-loop
 returns-2 c = sym (c .before .before .before .loop .inv ∙ unfinished-free _ _ (c .before .before .before .before .before .before .pre) _ _ (c .before .before .next .ensures) (c .enum-told .given .1))
 
--- src/passes.rt:269:26
 enum-told-2 : tie.Need-enum-told-2 Inv-loop μ-loop
 enum-told-2 c = search needs
 
--- src/passes.rt:269:26
 returns-3 : tie.Need-returns-3 Inv-loop μ-loop
 returns-3 c = sym (c .before .before .before .loop .inv ∙ unfinished-end _ _ (c .before .before .before .before .before .before .pre) _ _ (c .before .before .next .ensures) (c .enum-told2 .given .1))
 
--- src/passes.rt:270:26
 enum-known-n-2 : tie.Need-enum-known-n-2 Inv-loop μ-loop
 enum-known-n-2 c = search needs
 
--- src/passes.rt:272:21
 rank-requires : tie.Need-rank-requires Inv-loop μ-loop
 rank-requires c κs = search needs
 
--- src/passes.rt:274:21
 find-last-requires : tie.Need-find-last-requires Inv-loop μ-loop
 find-last-requires c κs = search needs
 
--- src/passes.rt:274:21
 returns-4 : tie.Need-returns-4 Inv-loop μ-loop
 returns-4 c = c .find-last .ensures ∙ sym (c .before .before .before .before .before .before .before .loop .inv ∙ unfinished-here _ _ (c .before .before .before .before .before .before .before .before .before .before .pre) _ _ (c .before .before .before .before .before .before .next .ensures) _ _ (c .before .before .before .before .n2 .given .1) _ (c .before .before .rank .ensures) (c .before .if1 .taken))
 
--- src/passes.rt:277:21
 returns-5 : tie.Need-returns-5 Inv-loop μ-loop
 returns-5 c = sym (c .before .before .before .before .before .before .before .loop .inv ∙ unfinished-not _ _ (c .before .before .before .before .before .before .before .before .before .before .pre) _ _ (c .before .before .before .before .before .before .next .ensures) _ _ (c .before .before .before .before .n2 .given .1) _ (c .before .before .rank .ensures) (c .before .if1 .left) (c .if2 .taken))
 
--- src/passes.rt:264:5
 loop-less : tie.Need-loop-less Inv-loop μ-loop
 loop-less c = let v = next-moves _ _ _ _ _ (sym (c .before .before .before .before .before .before .next .ensures) ∙ c .before .before .before .before .n2 .given .1) in omega (arith, v .forward, v .within, header-some (c .before .before .before .before .before .before .before .before .before .before .args .g .granularity) (c .before .before .before .before .before .before .before .before .before .before .args .g .s))
 
--- src/passes.rt:264:5
 loop-again : tie.Need-loop-again Inv-loop μ-loop
 loop-again c = c .before .before .before .before .before .before .before .loop .inv ∙ unfinished-more _ _ (c .before .before .before .before .before .before .before .before .before .before .pre) _ _ (c .before .before .before .before .before .before .next .ensures) _ _ (c .before .before .before .before .n2 .given .1) _ (c .before .before .rank .ensures) (c .if2 .left)
 

@@ -7,45 +7,32 @@ use Rattle.collector.specs.Passes.{repairing}
 use borrow.Author.Needs.{needs}
 use Rattle.collector.proofs.passes.repair.Statement.{statement}
 use Rattle.collector.proofs.passes.repair.Tie as tie
-use Rattle.collector.proofs.passes.repair.Reads as reads
-use Rattle.collector.proofs.passes.repair.Lts as lts
-use Rattle.collector.proofs.passes.repair_by.Reads as repair-by-reads
-use Rattle.medium.proofs.granularity.Granularity.object_header.Reads as object-header-reads
 
--- src/passes.rt:104:17
 cast-from : tie.Need-cast-from
 cast-from c = search needs
 
--- src/passes.rt:104:39
 object-header-requires : tie.Need-object-header-requires
 object-header-requires c κs = search needs
 
--- src/passes.rt:104:16
 add-from : tie.Need-add-from
 add-from c = omega (arith, c .object-header .ensures, header-small (c .before .before .before .before .args .g .granularity) (c .before .before .before .before .args .g .s))
 
--- src/passes.rt:106:9
 returns : tie.Need-returns
 unfolding repairing
 returns c = sym (test-stop _ _ _ _ 9 (rw (← c .before .object-header .ensures, lt-ltb _ _ (c .if1 .taken))) (λ q. absurd (omega arith)))
 
--- src/passes.rt:111:32
 sub-repair-by : tie.Need-sub-repair-by
 sub-repair-by c = search needs
 
--- src/passes.rt:111:31
 cast-repair-by : tie.Need-cast-repair-by
 cast-repair-by c = search needs
 
--- src/passes.rt:111:5
 repair-by-requires : tie.Need-repair-by-requires
 repair-by-requires c κs = search needs
 
--- src/passes.rt:99:1
 same-length : tie.Need-same-length
 same-length c = search needs
 
--- src/passes.rt:99:1
 returns-2 : tie.Need-returns-2
 unfolding repairing
 returns-2 c = (rw (c .before .before .before .before .before .object-header .ensures) at (c .before .before .repair-by .ensures)) ∙ sym (test-on _ _ _ _ 0 (rw (← c .before .before .before .before .before .object-header .ensures, le-ltb _ _ (c .before .before .before .before .if1 .left))) refl)

@@ -5,34 +5,23 @@ use Rattle.collector.specs.Passes.{repairBy}
 use borrow.Author.Needs.{needs}
 use Rattle.collector.proofs.passes.repair_by.Statement.{statement}
 use Rattle.collector.proofs.passes.repair_by.Tie as tie
-use Rattle.collector.proofs.passes.repair_by.Reads as reads
-use Rattle.collector.proofs.passes.repair_by.Lts as lts
-use Rattle.collector.proofs.passes.delete_object.Reads as delete-object-reads
-use Rattle.objects.proofs.header.ObjectHeader.payload_size.Reads as payload-size-reads
-use Rattle.objects.proofs.header.ObjectHeader.set_payload_size.Reads as set-payload-size-reads
 
--- src/passes.rt:77:9
 payload-size-requires : tie.Need-payload-size-requires
 payload-size-requires c κs = search needs
 
--- src/passes.rt:78:29
 enum-known-size : tie.Need-enum-known-size
 enum-known-size c = search needs
 
--- src/passes.rt:80:13
 returns : tie.Need-returns
 unfolding repairBy
 returns c = rw (← c .before .before .before .before .payload-size .ensures, c .before .before .size .given .1, eq-eqb _ _ (c .if1 .taken)) (sym (run-ask _ _ _))
 
--- src/passes.rt:85:9
 delete-object-requires : tie.Need-delete-object-requires
 delete-object-requires c κs = search needs
 
--- src/passes.rt:85:9
 same-length : tie.Need-same-length
 same-length c = search needs
 
--- src/passes.rt:85:9
 returns-2 : tie.Need-returns-2
 unfolding repairBy
 returns-2 c = rw (← c .before .before .before .before .before .before .before .before .payload-size .ensures, c .before .before .before .before .before .before .size .given .1, ne-eqb _ _ (c .before .before .before .before .if1 .left)) (c .before .before .delete-object .ensures)
@@ -40,36 +29,28 @@ returns-2 c = rw (← c .before .before .before .before .before .before .before 
 enum-told : tie.Need-enum-told
 enum-told c = search needs
 
--- src/passes.rt:87:9
 set-payload-size-requires : tie.Need-set-payload-size-requires
 set-payload-size-requires c κs = search needs
 
--- src/passes.rt:89:22
 enum-known-a : tie.Need-enum-known-a
 enum-known-a c = search needs
 
--- src/passes.rt:90:9
 enum-told-2 : tie.Need-enum-told-2
 enum-told-2 c = search needs
 
--- src/passes.rt:90:9
 same-length-2 : tie.Need-same-length-2
 same-length-2 c = search needs
 
--- src/passes.rt:90:9
 returns-3 : tie.Need-returns-3
 unfolding repairBy
 returns-3 c = rw (← c .before .before .before .before .before .before .before .before .payload-size .ensures, c .before .before .before .before .before .before .enum-told .given .1, c .enum-told2 .given .1) (sym (stop _ _ _ _ _ _ _ _ (c .before .before .before .before .set-payload-size .ensures .0) (c .enum-told2 .given .1)))
 
--- src/passes.rt:95:5
 delete-object-requires-2 : tie.Need-delete-object-requires-2
 delete-object-requires-2 c κs = search needs
 
--- src/passes.rt:74:1
 same-length-3 : tie.Need-same-length-3
 same-length-3 c = search needs
 
--- src/passes.rt:74:1
 returns-4 : tie.Need-returns-4
 unfolding repairBy
 returns-4 c = rw (← c .before .before .before .before .before .before .before .before .before .before .before .before .before .payload-size .ensures, c .before .before .before .before .before .before .before .before .before .before .before .enum-told .given .1) (c .before .before .delete-object2 .ensures ∙ sym (on _ _ _ _ _ _ _ _ (c .before .before .before .before .before .before .before .before .before .set-payload-size .ensures .0) (c .before .before .before .before .before .a .given .1)))

@@ -4,75 +4,54 @@ use Rattle.collector.specs.Passes.{collect}
 use borrow.Author.Needs.{needs}
 use Rattle.collector.proofs.passes.run.Statement.{statement}
 use Rattle.collector.proofs.passes.run.Tie as tie
-use Rattle.collector.proofs.passes.run.Reads as reads
-use Rattle.collector.proofs.passes.run.Lts as lts
-use Rattle.collector.proofs.passes.delete_invalid_objects.Reads as delete-invalid-objects-reads
-use Rattle.collector.proofs.passes.erase_full_finished_blocks.Reads as erase-full-finished-blocks-reads
-use Rattle.collector.proofs.passes.erase_invalid_finished_blocks.Reads as erase-invalid-finished-blocks-reads
 
--- src/passes.rt:422:9
 delete-invalid-objects-requires : tie.Need-delete-invalid-objects-requires
 delete-invalid-objects-requires c κs = search needs
 
--- src/passes.rt:423:22
 enum-known-first : tie.Need-enum-known-first
 enum-known-first c = search needs
 
--- src/passes.rt:424:9
 enum-told : tie.Need-enum-told
 enum-told c = search needs
 
--- src/passes.rt:424:9
 same-length : tie.Need-same-length
 same-length c = search needs
 
--- src/passes.rt:424:9
 same-length-2 : tie.Need-same-length-2
 same-length-2 c = search needs
 
--- src/passes.rt:424:9
 returns : tie.Need-returns
 unfolding collect
 returns c = rw (c .enum-told .given .1) (sym (stop _ _ _ _ _ _ _ _ (c .before .before .before .before .before .before .delete-invalid-objects .ensures) (c .enum-told .given .1)))
 
--- src/passes.rt:426:9
 erase-invalid-finished-blocks-requires : tie.Need-erase-invalid-finished-blocks-requires
 erase-invalid-finished-blocks-requires c κs = search needs
 
--- src/passes.rt:427:22
 enum-known-second : tie.Need-enum-known-second
 enum-known-second c = search needs
 
--- src/passes.rt:428:9
 enum-told-2 : tie.Need-enum-told-2
 enum-told-2 c = search needs
 
--- src/passes.rt:428:9
 same-length-3 : tie.Need-same-length-3
 same-length-3 c = search needs
 
--- src/passes.rt:428:9
 same-length-4 : tie.Need-same-length-4
 same-length-4 c = search needs
 
--- src/passes.rt:428:9
 returns-2 : tie.Need-returns-2
 unfolding collect
 returns-2 c = rw (c .enum-told2 .given .1) (sym (on _ _ _ _ _ _ _ _ (c .before .before .before .before .before .before .before .before .before .before .before .before .before .before .before .before .delete-invalid-objects .ensures) (c .before .before .before .before .before .before .before .before .before .before .first .given .1) ∙ stop _ _ _ _ _ _ _ _ (c .before .before .before .before .before .before .erase-invalid-finished-blocks .ensures) (c .enum-told2 .given .1)))
 
--- src/passes.rt:430:5
 erase-full-finished-blocks-requires : tie.Need-erase-full-finished-blocks-requires
 erase-full-finished-blocks-requires c κs = search needs
 
--- src/passes.rt:419:1
 same-length-5 : tie.Need-same-length-5
 same-length-5 c = search needs
 
--- src/passes.rt:419:1
 same-length-6 : tie.Need-same-length-6
 same-length-6 c = search needs
 
--- src/passes.rt:419:1
 returns-3 : tie.Need-returns-3
 unfolding collect
 returns-3 c = c .before .before .before .before .erase-full-finished-blocks .ensures ∙ sym (on _ _ _ _ _ _ _ _ (c .before .before .before .before .before .before .before .before .before .before .before .before .before .before .before .before .before .before .before .before .before .before .before .before .delete-invalid-objects .ensures) (c .before .before .before .before .before .before .before .before .before .before .before .before .before .before .before .before .before .before .first .given .1) ∙ on _ _ _ _ _ _ _ _ (c .before .before .before .before .before .before .before .before .before .before .before .before .before .before .erase-invalid-finished-blocks .ensures) (c .before .before .before .before .before .before .before .before .second .given .1))

@@ -12,10 +12,6 @@ use Rattle.collector.proofs.Tables.{collect-checked, rows-of}
 use Rattle.collector.proofs.Sweeps.{sweep-step, sweep-end, pass-stop, pass-on}
 use Rattle.collector.proofs.passes.sweep.Statement.{statement}
 use Rattle.collector.proofs.passes.sweep.Tie as tie
-use Rattle.collector.proofs.passes.sweep.Reads as reads
-use Rattle.collector.proofs.passes.sweep.Lts as lts
-use Rattle.collector.proofs.passes.block_step.Reads as block-step-reads
-use Rattle.collector.proofs.table.check.Reads as check-reads
 
 abbrev Inv-loop : tie.InvT-loop
 Inv-loop p g image₀ table₀ bad n fuse₀ b₀ image table fuse b = (b ≤ n) × (length image ≡ length image₀) × (length table ≡ length table₀) × (run fuse₀ (pass (stepOf p) g) (both image₀ table₀) ≡ run fuse (passes.sweep (stepOf p) (n - b) g b) (both image table))
@@ -23,67 +19,51 @@ Inv-loop p g image₀ table₀ bad n fuse₀ b₀ image table fuse b = (b ≤ n)
 abbrev μ-loop : tie.MeasureT-loop
 μ-loop p g image₀ table₀ bad n fuse₀ b₀ image table fuse b = n - b
 
--- src/passes.rt:379:9
 check-requires : tie.Need-check-requires Inv-loop μ-loop
 check-requires c κs = search needs
 
--- src/passes.rt:381:9
 same-length : tie.Need-same-length Inv-loop μ-loop
 same-length c = search needs
 
--- src/passes.rt:381:9
 returns : tie.Need-returns Inv-loop μ-loop
 returns c = sym (pass-stop _ _ _ _ _ _ (c .before .check .ensures) (c .if1 .taken))
 
--- src/passes.rt:386:5
 loop-holds : tie.Need-loop-holds Inv-loop μ-loop
 loop-holds c = (omega arith, refl, refl, pass-on _ _ _ _ _ _ (c .before .check .ensures) (c .if1 .left))
 
--- src/passes.rt:387:13
 block-step-requires : tie.Need-block-step-requires Inv-loop μ-loop
 block-step-requires c κs = let h = rows-of _ _ _ _ (c .before .before .before .before .before .check .ensures) (c .before .before .before .before .if1 .left) in let k = collect-checked _ _ _ _ (c .before .before .before .before .before .check .ensures) (c .before .before .before .before .if1 .left) in (omega (arith, h, c .before .before .before .loop .inv), rw (c .before .before .before .loop .inv .1) k)
 
--- src/passes.rt:388:26
 enum-known-a : tie.Need-enum-known-a Inv-loop μ-loop
 enum-known-a c = search needs
 
--- src/passes.rt:389:13
 enum-told : tie.Need-enum-told Inv-loop μ-loop
 enum-told c = search needs
 
--- src/passes.rt:389:13
 same-length-2 : tie.Need-same-length-2 Inv-loop μ-loop
 same-length-2 c = search needs
 
--- src/passes.rt:389:13
 same-length-3 : tie.Need-same-length-3 Inv-loop μ-loop
 same-length-3 c = search needs
 
--- src/passes.rt:389:13
 returns-2 : tie.Need-returns-2 Inv-loop μ-loop
 returns-2 c = rw (c .enum-told .given .1) (sym (c .before .before .before .before .before .before .before .before .before .before .loop .inv .3 ∙ sweep-step _ _ _ _ _ _ (c .before .before .before .before .before .before .before .before .before .loop-test .taken) ∙ stop _ _ _ _ _ _ _ _ (c .before .before .before .before .before .before .block-step .ensures) (c .enum-told .given .1)))
 
--- src/passes.rt:392:9
 add-b : tie.Need-add-b Inv-loop μ-loop
 add-b c = omega arith
 
--- src/passes.rt:386:5
 loop-less : tie.Need-loop-less Inv-loop μ-loop
 loop-less c = omega arith
 
--- src/passes.rt:386:5
 loop-again : tie.Need-loop-again Inv-loop μ-loop
 loop-again c = (omega arith, search needs, search needs, c .before .before .before .before .before .before .before .before .before .before .before .loop .inv .3 ∙ sweep-step _ _ _ _ _ _ (c .before .before .before .before .before .before .before .before .before .before .loop-test .taken) ∙ on _ _ _ _ _ _ _ _ (c .before .before .before .before .before .before .before .block-step .ensures) (c .before .a .given .1))
 
--- src/passes.rt:376:1
 same-length-4 : tie.Need-same-length-4 Inv-loop μ-loop
 same-length-4 c = search needs
 
--- src/passes.rt:376:1
 same-length-5 : tie.Need-same-length-5 Inv-loop μ-loop
 same-length-5 c = search needs
 
--- src/passes.rt:376:1
 returns-3 : tie.Need-returns-3 Inv-loop μ-loop
 returns-3 c = sym (c .before .loop .inv .3 ∙ sweep-end _ _ _ _ _ _ (c .loop-test .left))
 

@@ -4,60 +4,43 @@ use Rattle.collector.proofs.Repairs.{visit-skip, visit-stop, visit-dele
 use borrow.Author.Needs.{needs}
 use Rattle.collector.proofs.passes.visit.Statement.{statement}
 use Rattle.collector.proofs.passes.visit.Tie as tie
-use Rattle.collector.proofs.passes.visit.Reads as reads
-use Rattle.collector.proofs.passes.visit.Lts as lts
-use Rattle.collector.proofs.passes.repair.Reads as repair-reads
-use Rattle.collector.proofs.table.allow.Reads as allow-reads
-use Rattle.objects.proofs.state.CompositeObjectState.rank.Reads as rank-reads
 
--- src/passes.rt:120:8
 rank-requires : tie.Need-rank-requires
 rank-requires c κs = search needs
 
--- src/passes.rt:121:9
 returns : tie.Need-returns
 returns c = sym (visit-skip _ _ _ _ _ _ _ (rw (← c .before .rank .ensures) (ne-eqb _ _ (c .if1 .taken))))
 
--- src/passes.rt:126:9
 repair-requires : tie.Need-repair-requires
 repair-requires c κs = search needs
 
 enum-told : tie.Need-enum-told
 enum-told c = search needs
 
--- src/passes.rt:129:9
 enum-told-2 : tie.Need-enum-told-2
 enum-told-2 c = search needs
 
--- src/passes.rt:129:9
 same-length : tie.Need-same-length
 same-length c = search needs
 
--- src/passes.rt:129:9
 returns-2 : tie.Need-returns-2
 returns-2 c = rw (c .enum-told2 .given .1) (sym (visit-stop _ _ _ _ _ _ _ (rw (← c .before .before .before .before .before .before .before .rank .ensures) (eq-eqb _ _ (c .before .before .before .before .before .before .if1 .left))) _ _ _ _ (c .before .before .before .before .repair .ensures) (c .enum-told2 .given .1)))
 
--- src/passes.rt:135:9
 allow-requires : tie.Need-allow-requires
 allow-requires c κs = search needs
 
--- src/passes.rt:136:9
 same-length-2 : tie.Need-same-length-2
 same-length-2 c = search needs
 
--- src/passes.rt:136:9
 same-length-3 : tie.Need-same-length-3
 same-length-3 c = search needs
 
--- src/passes.rt:136:9
 returns-3 : tie.Need-returns-3
 returns-3 c = rw (c .before .before .allow .ensures, c .before .before .before .before .before .enum-told .given .1) (sym (visit-deleted _ _ _ _ _ _ (c .before .before .before .before .before .before .before .before .before .before .before .before .before .before .before .args .table .now) (rw (← c .before .before .before .before .before .before .before .before .before .before .before .before .rank .ensures) (eq-eqb _ _ (c .before .before .before .before .before .before .before .before .before .before .before .if1 .left))) _ _ _ _ (c .before .before .before .before .before .before .before .before .before .repair .ensures) (c .before .before .before .before .before .enum-told .given .1) (c .before .before .before .before .if2 .taken)))
 
--- src/passes.rt:115:1
 same-length-4 : tie.Need-same-length-4
 same-length-4 c = search needs
 
--- src/passes.rt:115:1
 returns-4 : tie.Need-returns-4
 returns-4 c = rw (c .before .enum-told .given .1) (sym (visit-left _ _ _ _ _ _ _ (rw (← c .before .before .before .before .before .before .before .before .rank .ensures) (eq-eqb _ _ (c .before .before .before .before .before .before .before .if1 .left))) _ _ _ _ (c .before .before .before .before .before .repair .ensures) (c .before .enum-told .given .1) (c .if2 .left)))
 

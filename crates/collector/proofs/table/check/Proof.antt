@@ -3,36 +3,25 @@ use Rattle.collector.proofs.Tables.{collect-bad, collect-room, collect-
 use borrow.Author.Needs.{needs}
 use Rattle.collector.proofs.table.check.Statement.{statement}
 use Rattle.collector.proofs.table.check.Tie as tie
-use Rattle.collector.proofs.table.check.Reads as reads
-use Rattle.collector.proofs.table.check.Lts as lts
-use Rattle.collector.proofs.table.possible.Reads as possible-reads
-use Rattle.medium.proofs.geometry.check.Reads as check-reads
 
--- src/table.rt:68:9
 check-requires : tie.Need-check-requires
 check-requires c κs = search needs
 
--- src/table.rt:70:9
 returns : tie.Need-returns
 returns c = collect-bad _ _ _ _ (c .before .check .ensures) (c .if1 .taken)
 
--- src/table.rt:72:13
 cast-if2 : tie.Need-cast-if2
 cast-if2 c = search needs
 
--- src/table.rt:72:8
 mul-if2 : tie.Need-mul-if2
 mul-if2 c = search needs
 
--- src/table.rt:73:9
 returns-2 : tie.Need-returns-2
 returns-2 c = collect-room _ _ _ _ (c .before .before .before .check .ensures) (c .before .before .if1 .left) (c .if2 .taken)
 
--- src/table.rt:75:5
 possible-requires : tie.Need-possible-requires
 possible-requires c κs = search needs
 
--- src/table.rt:65:1
 returns-3 : tie.Need-returns-3
 returns-3 c = c .possible .ensures ∙ collect-rows _ _ _ _ (c .before .before .before .before .check .ensures) (c .before .before .before .if1 .left) (c .before .if2 .left)
 

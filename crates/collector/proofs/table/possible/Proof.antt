@@ -7,10 +7,6 @@ use Rattle.collector.specs.Table.{possibleFrom}
 use Rattle.collector.proofs.Tables.{possible-more, possible-stop, possible-end}
 use Rattle.collector.proofs.table.possible.Statement.{statement}
 use Rattle.collector.proofs.table.possible.Tie as tie
-use Rattle.collector.proofs.table.possible.Reads as reads
-use Rattle.collector.proofs.table.possible.Lts as lts
-use Rattle.blocks.proofs.record.BlockInfoRead.number.Reads as number-reads
-use Rattle.collector.proofs.table.record_at.Reads as record-at-reads
 
 abbrev Inv-loop : tie.InvT-loop
 Inv-loop table count b₀ b = (b ≤ count) × (possibleFrom count table 0 ≡ possibleFrom (count - b) table b)
@@ -18,42 +14,33 @@ Inv-loop table count b₀ b = (b ≤ count) × (possibleFrom count table 0 ≡ p
 abbrev μ-loop : tie.MeasureT-loop
 μ-loop table count b₀ b = count - b
 
--- src/table.rt:54:5
 loop-holds : tie.Need-loop-holds Inv-loop μ-loop
 loop-holds c = let m : c .before .args .count - 0 ≡ c .before .args .count = omega arith in (omega arith, rw m)
 
--- src/table.rt:55:13
 record-at-requires : tie.Need-record-at-requires Inv-loop μ-loop
 record-at-requires c κs = omega (arith, c .before .before .before .pre)
 
 enum-told : tie.Need-enum-told Inv-loop μ-loop
 enum-told c = search needs
 
--- src/table.rt:57:13
 enum-told-2 : tie.Need-enum-told-2 Inv-loop μ-loop
 enum-told-2 c = search needs
 
--- src/table.rt:57:13
 number-requires : tie.Need-number-requires Inv-loop μ-loop
 number-requires c κs = search needs
 
--- src/table.rt:57:13
 returns : tie.Need-returns Inv-loop μ-loop
 returns c = rw (c .number .ensures, c .before .before .before .before .before .loop .inv .1, possible-stop _ _ _ (c .before .before .before .before .loop-test .taken) _ (c .before .before .before .record-at .ensures) _ (ap infoAnswer (c .before .enum-told2 .given .1)), c .before .enum-told2 .given .1)
 
--- src/table.rt:59:9
 add-b : tie.Need-add-b Inv-loop μ-loop
 add-b c = omega arith
 
--- src/table.rt:54:5
 loop-less : tie.Need-loop-less Inv-loop μ-loop
 loop-less c = omega arith
 
--- src/table.rt:54:5
 loop-again : tie.Need-loop-again Inv-loop μ-loop
 loop-again c = (omega arith, c .before .before .before .before .loop .inv .1 ∙ possible-more _ _ _ (c .before .before .before .loop-test .taken) _ (c .before .before .record-at .ensures) _ (ap infoAnswer (c .enum-told .given .1)))
 
--- src/table.rt:49:1
 returns-2 : tie.Need-returns-2 Inv-loop μ-loop
 returns-2 c = rw (c .before .loop .inv .1, possible-end _ _ _ (c .loop-test .left))
 

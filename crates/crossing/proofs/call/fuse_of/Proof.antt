@@ -2,15 +2,11 @@ use Rattle.crossing.specs.Crossing.{fuseOf}
 use borrow.Author.Needs.{needs}
 use Rattle.crossing.proofs.call.fuse_of.Statement.{statement}
 use Rattle.crossing.proofs.call.fuse_of.Tie as tie
-use Rattle.crossing.proofs.call.fuse_of.Reads as reads
-use Rattle.crossing.proofs.call.fuse_of.Lts as lts
 
--- src/call.rt:45:1
 returns : tie.Need-returns
 unfolding fuseOf
 returns c = rw (c .before .if1 .taken)
 
--- src/call.rt:45:1
 returns-2 : tie.Need-returns-2
 unfolding fuseOf
 returns-2 c = search needs

@@ -4,38 +4,27 @@ use Rattle.crossing.specs.Crossing.{geometryFor}
 use borrow.Author.Needs.{needs}
 use Rattle.crossing.proofs.call.geometry_for.Statement.{statement}
 use Rattle.crossing.proofs.call.geometry_for.Tie as tie
-use Rattle.crossing.proofs.call.geometry_for.Reads as reads
-use Rattle.crossing.proofs.call.geometry_for.Lts as lts
-use Rattle.crossing.proofs.call.geometry_of.Reads as geometry-of-reads
-use Rattle.medium.proofs.geometry.check.Reads as check-reads
 
--- src/call.rt:63:9
 geometry-of-requires : tie.Need-geometry-of-requires
 geometry-of-requires c κs = search needs
 
--- src/call.rt:64:27
 enum-known-told : tie.Need-enum-known-told
 enum-known-told c = search needs
 
--- src/call.rt:65:9
 enum-told : tie.Need-enum-told
 enum-told c = search needs
 
--- src/call.rt:65:9
 returns : tie.Need-returns
 unfolding geometryFor
 returns c = rw (← c .before .before .geometry-of .ensures, c .enum-told .given .1)
 
--- src/call.rt:67:9
 check-requires : tie.Need-check-requires
 check-requires c κs = search needs
 
--- src/call.rt:69:9
 returns-2 : tie.Need-returns-2
 unfolding geometryFor
 returns-2 c = rw (← c .before .before .before .before .before .geometry-of .ensures, c .before .before .before .told .given .1) (sym (gate-stop _ _ _ (c .before .check .ensures) (c .if1 .taken)))
 
--- src/call.rt:60:1
 returns-3 : tie.Need-returns-3
 unfolding geometryFor
 returns-3 c = rw (← c .before .before .before .before .before .geometry-of .ensures, c .before .before .before .told .given .1) (sym (gate-on _ _ _ (c .before .check .ensures) (c .if1 .left)))

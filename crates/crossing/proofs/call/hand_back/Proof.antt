@@ -3,32 +3,23 @@ use Rattle.crossing.specs.Crossing.{unitsAfter}
 use borrow.Author.Needs.{needs}
 use Rattle.crossing.proofs.call.hand_back.Statement.{statement}
 use Rattle.crossing.proofs.call.hand_back.Tie as tie
-use Rattle.crossing.proofs.call.hand_back.Reads as reads
-use Rattle.crossing.proofs.call.hand_back.Lts as lts
-use Rattle.crossing.proofs.call.leave.Reads as leave-reads
 
--- src/call.rt:57:22
 enum-known-answer : tie.Need-enum-known-answer
 enum-known-answer c = search needs
 
--- src/call.rt:58:13
 leave-requires : tie.Need-leave-requires
 leave-requires c κs = search needs
 
--- src/call.rt:61:25
 enum-known-answer-2 : tie.Need-enum-known-answer-2
 enum-known-answer-2 c = search needs
 
--- src/call.rt:62:13
 leave-requires-2 : tie.Need-leave-requires-2
 leave-requires-2 c κs = search needs
 
--- src/call.rt:52:1
 returns : tie.Need-returns
 unfolding unitsAfter
 returns c = rw (c .before .before .before .answer .given .1) (refl, c .leave .ensures)
 
--- src/call.rt:52:1
 returns-2 : tie.Need-returns-2
 unfolding unitsAfter
 returns-2 c = rw (c .before .before .before .answer2 .given .1) (refl, c .leave2 .ensures)

@@ -2,37 +2,27 @@ use Rattle.crossing.specs.Kinds.{objectTypeOf}
 use borrow.Author.Needs.{needs}
 use Rattle.crossing.proofs.kinds.object_type_of.Statement.{statement}
 use Rattle.crossing.proofs.kinds.object_type_of.Tie as tie
-use Rattle.crossing.proofs.kinds.object_type_of.Reads as reads
-use Rattle.crossing.proofs.kinds.object_type_of.Lts as lts
-use Rattle.objects.proofs.types.ObjectType.parse.Reads as parse-reads
 
--- src/kinds.rt:28:9
 parse-requires : tie.Need-parse-requires
 parse-requires c κs = search needs
 
--- src/kinds.rt:30:23
 enum-known-told : tie.Need-enum-known-told
 enum-known-told c = search needs
 
--- src/kinds.rt:31:27
 enum-told : tie.Need-enum-told
 enum-told c = search needs
 
--- src/kinds.rt:32:33
 enum-told-2 : tie.Need-enum-told-2
 enum-told-2 c = search needs
 
--- src/kinds.rt:25:1
 returns : tie.Need-returns
 unfolding objectTypeOf
 returns c = rw (← c .before .before .before .parse .ensures, c .before .told .given .1)
 
--- src/kinds.rt:25:1
 returns-2 : tie.Need-returns-2
 unfolding objectTypeOf
 returns-2 c = rw (← c .before .before .parse .ensures, c .enum-told .given .1)
 
--- src/kinds.rt:25:1
 returns-3 : tie.Need-returns-3
 unfolding objectTypeOf
 returns-3 c = rw (← c .before .before .parse .ensures, c .enum-told2 .given .1)

@@ -2,25 +2,19 @@ use borrow.Author.Tests.{ne-eqb}
 use Rattle.crossing.specs.Values.{dataStateOf}
 use Rattle.crossing.proofs.values.data_state_of.Statement.{statement}
 use Rattle.crossing.proofs.values.data_state_of.Tie as tie
-use Rattle.crossing.proofs.values.data_state_of.Reads as reads
-use Rattle.crossing.proofs.values.data_state_of.Lts as lts
 
--- src/values.rt:54:1
 returns : tie.Need-returns
 unfolding dataStateOf
 returns c = rw (c .match .keys1)
 
--- src/values.rt:54:1
 returns-2 : tie.Need-returns-2
 unfolding dataStateOf
 returns-2 c = rw (c .match .keys2)
 
--- src/values.rt:54:1
 returns-3 : tie.Need-returns-3
 unfolding dataStateOf
 returns-3 c = rw (c .match .keys3)
 
--- src/values.rt:54:1
 returns-4 : tie.Need-returns-4
 unfolding dataStateOf
 returns-4 c = simp (ne-eqb _ _ (c .match .rest .0 .0 .1), ne-eqb _ _ (c .match .rest .0 .1), ne-eqb _ _ (c .match .rest .1))

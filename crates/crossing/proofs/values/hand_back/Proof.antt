@@ -1,35 +1,25 @@
 use borrow.Author.Needs.{needs}
 use Rattle.crossing.proofs.values.hand_back.Statement.{statement}
 use Rattle.crossing.proofs.values.hand_back.Tie as tie
-use Rattle.crossing.proofs.values.hand_back.Reads as reads
-use Rattle.crossing.proofs.values.hand_back.Lts as lts
-use Rattle.crossing.proofs.call.hand_back.Reads as hand-back-reads
-use Rattle.crossing.proofs.values.put_header.Reads as put-header-reads
 
 enum-told : tie.Need-enum-told
 enum-told c = search needs
 
--- src/values.rt:142:44
 enum-told-2 : tie.Need-enum-told-2
 enum-told-2 c = search needs
 
--- src/values.rt:142:9
 hand-back-requires : tie.Need-hand-back-requires
 hand-back-requires c κs = search needs
 
--- src/values.rt:142:9
 returns : tie.Need-returns
 returns c = (c .hand-back .ensures .0, (c .hand-back .ensures .1, rw (c .before .before .enum-told2 .given .1)))
 
--- src/values.rt:144:5
 put-header-requires : tie.Need-put-header-requires
 put-header-requires c κs = search needs
 
--- src/values.rt:145:5
 hand-back-requires-2 : tie.Need-hand-back-requires-2
 hand-back-requires-2 c κs = search needs
 
--- src/values.rt:134:1
 returns-2 : tie.Need-returns-2
 returns-2 c = (c .hand-back2 .ensures .0, (c .hand-back2 .ensures .1, rw (c .before .before .before .before .enum-told .given .1) (c .before .before .put-header .ensures)))
 

@@ -3,66 +3,48 @@ use Rattle.crossing.specs.Values.{readerOf}
 use borrow.Author.Needs.{needs}
 use Rattle.crossing.proofs.values.reader_of.Statement.{statement}
 use Rattle.crossing.proofs.values.reader_of.Tie as tie
-use Rattle.crossing.proofs.values.reader_of.Reads as reads
-use Rattle.crossing.proofs.values.reader_of.Lts as lts
-use Rattle.crossing.proofs.values.header_from.Reads as header-from-reads
-use Rattle.objects.proofs.header.HeaderRead.number.Reads as number-reads
 
--- src/values.rt:155:28
 element-copy-out-header-from : tie.Need-element-copy-out-header-from
 element-copy-out-header-from c = search needs
 
--- src/values.rt:155:34
 element-copy-out-header-from-2 : tie.Need-element-copy-out-header-from-2
 element-copy-out-header-from-2 c = search needs
 
--- src/values.rt:155:40
 element-copy-out-header-from-3 : tie.Need-element-copy-out-header-from-3
 element-copy-out-header-from-3 c = search needs
 
--- src/values.rt:155:46
 element-copy-out-header-from-4 : tie.Need-element-copy-out-header-from-4
 element-copy-out-header-from-4 c = search needs
 
--- src/values.rt:155:52
 element-copy-out-header-from-5 : tie.Need-element-copy-out-header-from-5
 element-copy-out-header-from-5 c = search needs
 
--- src/values.rt:155:9
 header-from-requires : tie.Need-header-from-requires
 header-from-requires c κs = search needs
 
--- src/values.rt:156:25
 enum-known-told : tie.Need-enum-known-told
 enum-known-told c = search needs
 
--- src/values.rt:157:36
 enum-told : tie.Need-enum-told
 enum-told c = search needs
 
--- src/values.rt:157:36
 number-requires : tie.Need-number-requires
 number-requires c κs = search needs
 
--- src/values.rt:157:9
 returns : tie.Need-returns
 unfolding readerOf
 returns c = rw (← c .before .before .before .header-from .ensures, c .number .ensures, c .before .enum-told .given .1)
 
--- src/values.rt:159:18
 element-copy-out-cursor : tie.Need-element-copy-out-cursor
 element-copy-out-cursor c = search needs
 
--- src/values.rt:161:9
 returns-2 : tie.Need-returns-2
 unfolding readerOf
 returns-2 c = rw (← c .before .before .before .before .before .header-from .ensures, c .before .before .before .told .given .1, lt-leb _ _ (c .if1 .taken))
 
--- src/values.rt:165:17
 cast-t24 : tie.Need-cast-t24
 cast-t24 c = search needs
 
--- src/values.rt:152:1
 returns-3 : tie.Need-returns-3
 unfolding readerOf
 returns-3 c = rw (← c .before .before .before .before .before .header-from .ensures, c .before .before .before .told .given .1, le-leb _ _ (c .if1 .left))

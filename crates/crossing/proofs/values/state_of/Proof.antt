@@ -4,56 +4,41 @@ use Rattle.crossing.proofs.Types.{type-high}
 use borrow.Author.Needs.{needs}
 use Rattle.crossing.proofs.values.state_of.Statement.{statement}
 use Rattle.crossing.proofs.values.state_of.Tie as tie
-use Rattle.crossing.proofs.values.state_of.Reads as reads
-use Rattle.crossing.proofs.values.state_of.Lts as lts
-use Rattle.crossing.proofs.values.data_state_of.Reads as data-state-of-reads
-use Rattle.objects.proofs.types.ObjectType.parse.Reads as parse-reads
 
--- src/values.rt:70:9
 returns : tie.Need-returns
 unfolding stateOf
 returns c = rw (type-high _ (c .if1 .taken))
 
--- src/values.rt:72:34
 cast-parse : tie.Need-cast-parse
 cast-parse c = search needs
 
--- src/values.rt:72:9
 parse-requires : tie.Need-parse-requires
 parse-requires c κs = search needs
 
--- src/values.rt:74:23
 enum-known-told : tie.Need-enum-known-told
 enum-known-told c = search needs
 
--- src/values.rt:74:29
 data-state-of-requires : tie.Need-data-state-of-requires
 data-state-of-requires c κs = search needs
 
--- src/values.rt:75:27
 enum-told : tie.Need-enum-told
 enum-told c = search needs
 
--- src/values.rt:79:33
 enum-told-2 : tie.Need-enum-told-2
 enum-told-2 c = search needs
 
--- src/values.rt:66:1
 returns-2 : tie.Need-returns-2
 unfolding stateOf
 returns-2 c = rw (← c .before .before .before .before .parse .ensures, c .before .before .told .given .1) (c .data-state-of .ensures)
 
--- src/values.rt:66:1
 returns-3 : tie.Need-returns-3
 unfolding stateOf
 returns-3 c = rw (← c .before .before .before .parse .ensures, c .before .enum-told .given .1, c .match2 .keys1)
 
--- src/values.rt:66:1
 returns-4 : tie.Need-returns-4
 unfolding stateOf
 returns-4 c = rw (← c .before .before .before .parse .ensures, c .before .enum-told .given .1, ne-eqb _ _ (c .match2 .rest .1))
 
--- src/values.rt:66:1
 returns-5 : tie.Need-returns-5
 unfolding stateOf
 returns-5 c = rw (← c .before .before .parse .ensures, c .enum-told2 .given .1)

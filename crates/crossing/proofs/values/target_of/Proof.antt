@@ -2,30 +2,23 @@ use borrow.Author.Tests.{ne-eqb}
 use Rattle.crossing.specs.Values.{targetOf}
 use Rattle.crossing.proofs.values.target_of.Statement.{statement}
 use Rattle.crossing.proofs.values.target_of.Tie as tie
-use Rattle.crossing.proofs.values.target_of.Reads as reads
-use Rattle.crossing.proofs.values.target_of.Lts as lts
 
--- src/values.rt:41:1
 returns : tie.Need-returns
 unfolding targetOf
 returns c = rw (c .match .keys1)
 
--- src/values.rt:41:1
 returns-2 : tie.Need-returns-2
 unfolding targetOf
 returns-2 c = rw (c .match .keys2)
 
--- src/values.rt:41:1
 returns-3 : tie.Need-returns-3
 unfolding targetOf
 returns-3 c = rw (c .match .keys3)
 
--- src/values.rt:41:1
 returns-4 : tie.Need-returns-4
 unfolding targetOf
 returns-4 c = rw (c .match .keys4)
 
--- src/values.rt:41:1
 returns-5 : tie.Need-returns-5
 unfolding targetOf
 returns-5 c = simp (ne-eqb _ _ (c .match .rest .0 .0 .0 .1), ne-eqb _ _ (c .match .rest .0 .0 .1), ne-eqb _ _ (c .match .rest .0 .1), ne-eqb _ _ (c .match .rest .1))

@@ -3,29 +3,20 @@ use Rattle.cuts.specs.Agree.{alike}
 use borrow.Author.Needs.{needs}
 use Rattle.cuts.proofs.moment.are_alike.Statement.{statement}
 use Rattle.cuts.proofs.moment.are_alike.Tie as tie
-use Rattle.cuts.proofs.moment.are_alike.Reads as reads
-use Rattle.cuts.proofs.moment.are_alike.Lts as lts
-use Rattle.cuts.proofs.moment.type_number.Reads as type-number-reads
-use Rattle.cuts.proofs.payload.same_payload.Reads as same-payload-reads
 
--- src/moment.rt:43:8
 type-number-requires : tie.Need-type-number-requires
 type-number-requires c κs = search needs
 
--- src/moment.rt:43:28
 type-number-requires-2 : tie.Need-type-number-requires-2
 type-number-requires-2 c κs = search needs
 
--- src/moment.rt:44:9
 returns : tie.Need-returns
 unfolding alike
 returns c = rw (← c .before .before .type-number .ensures, ← c .before .type-number2 .ensures, ne-eqb _ _ (c .if1 .taken))
 
--- src/moment.rt:46:5
 same-payload-requires : tie.Need-same-payload-requires
 same-payload-requires c κs = search needs
 
--- src/moment.rt:38:1
 returns-2 : tie.Need-returns-2
 unfolding alike
 returns-2 c = rw (← c .before .before .before .type-number .ensures, ← c .before .before .type-number2 .ensures, eq-eqb _ _ (c .before .if1 .left), c .same-payload .ensures)

@@ -2,15 +2,11 @@ use borrow.Author.Tests.{ne-eqb, eq-eqb}
 use Rattle.cuts.specs.Moment.{apart}
 use Rattle.cuts.proofs.moment.are_apart.Statement.{statement}
 use Rattle.cuts.proofs.moment.are_apart.Tie as tie
-use Rattle.cuts.proofs.moment.are_apart.Reads as reads
-use Rattle.cuts.proofs.moment.are_apart.Lts as lts
 
--- src/moment.rt:68:9
 returns : tie.Need-returns
 unfolding apart
 returns c = simp (ne-eqb _ _ (c .if1 .taken))
 
--- src/moment.rt:64:1
 returns-2 : tie.Need-returns-2
 unfolding apart
 returns-2 c = rw (eq-eqb _ _ (c .before .before .if1 .left))

@@ -2,34 +2,24 @@ use Rattle.cuts.specs.Moment.{twinOf}
 use borrow.Author.Needs.{needs}
 use Rattle.cuts.proofs.moment.are_twins.Statement.{statement}
 use Rattle.cuts.proofs.moment.are_twins.Tie as tie
-use Rattle.cuts.proofs.moment.are_twins.Reads as reads
-use Rattle.cuts.proofs.moment.are_twins.Lts as lts
-use Rattle.cuts.proofs.moment.are_apart.Reads as are-apart-reads
-use Rattle.cuts.proofs.moment.is_finished.Reads as is-finished-reads
 
--- src/moment.rt:76:8
 are-apart-requires : tie.Need-are-apart-requires
 are-apart-requires c κs = search needs
 
--- src/moment.rt:77:12
 is-finished-requires : tie.Need-is-finished-requires
 is-finished-requires c κs = search needs
 
--- src/moment.rt:78:13
 is-finished-requires-2 : tie.Need-is-finished-requires-2
 is-finished-requires-2 c κs = search needs
 
--- src/moment.rt:78:13
 returns : tie.Need-returns
 unfolding twinOf
 returns c = rw (← c .before .before .before .before .are-apart .ensures, c .before .before .before .if1 .taken, ← c .before .before .is-finished .ensures, c .before .if2 .taken, c .is-finished2 .ensures)
 
--- src/moment.rt:80:9
 returns-2 : tie.Need-returns-2
 unfolding twinOf
 returns-2 c = rw (← c .before .before .before .are-apart .ensures, c .before .before .if1 .taken, ← c .before .is-finished .ensures, c .if2 .left)
 
--- src/moment.rt:73:1
 returns-3 : tie.Need-returns-3
 unfolding twinOf
 returns-3 c = rw (← c .before .are-apart .ensures, c .if1 .left)

@@ -2,37 +2,27 @@ use Rattle.cuts.specs.Moment.{isFinished}
 use borrow.Author.Needs.{needs}
 use Rattle.cuts.proofs.moment.is_finished.Statement.{statement}
 use Rattle.cuts.proofs.moment.is_finished.Tie as tie
-use Rattle.cuts.proofs.moment.is_finished.Reads as reads
-use Rattle.cuts.proofs.moment.is_finished.Lts as lts
-use Rattle.objects.proofs.state.CompositeObjectState.rank.Reads as rank-reads
 
--- src/moment.rt:67:25
 enum-known-seen : tie.Need-enum-known-seen
 enum-known-seen c = search needs
 
--- src/moment.rt:69:13
 rank-requires : tie.Need-rank-requires
 rank-requires c κs = search needs
 
--- src/moment.rt:71:27
 enum-told : tie.Need-enum-told
 enum-told c = search needs
 
--- src/moment.rt:72:33
 enum-told-2 : tie.Need-enum-told-2
 enum-told-2 c = search needs
 
--- src/moment.rt:63:1
 returns : tie.Need-returns
 unfolding isFinished
 returns c = rw (c .before .before .seen .given .1, c .rank .ensures)
 
--- src/moment.rt:63:1
 returns-2 : tie.Need-returns-2
 unfolding isFinished
 returns-2 c = rw (c .enum-told .given .1)
 
--- src/moment.rt:63:1
 returns-3 : tie.Need-returns-3
 unfolding isFinished
 returns-3 c = rw (c .enum-told2 .given .1)

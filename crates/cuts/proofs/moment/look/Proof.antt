@@ -3,29 +3,19 @@ use Rattle.cuts.proofs.Looks.{seen-is}
 use borrow.Author.Needs.{needs}
 use Rattle.cuts.proofs.moment.look.Statement.{statement}
 use Rattle.cuts.proofs.moment.look.Tie as tie
-use Rattle.cuts.proofs.moment.look.Reads as reads
-use Rattle.cuts.proofs.moment.look.Lts as lts
-use Rattle.cuts.proofs.moment.are_twins.Reads as are-twins-reads
-use Rattle.cuts.proofs.moment.do_agree.Reads as do-agree-reads
-use Rattle.objects.proofs.info.read.Reads as read-reads
 
--- src/moment.rt:101:9
 read-requires : tie.Need-read-requires
 read-requires c κs = search needs
 
--- src/moment.rt:102:9
 read-requires-2 : tie.Need-read-requires-2
 read-requires-2 c κs = search needs
 
--- src/moment.rt:103:8
 do-agree-requires : tie.Need-do-agree-requires
 do-agree-requires c κs = search needs
 
--- src/moment.rt:109:19
 are-twins-requires : tie.Need-are-twins-requires
 are-twins-requires c κs = search needs
 
--- src/moment.rt:104:9
 returns : tie.Need-returns
 unfolding lookOf
 returns c =
@@ -33,7 +23,6 @@ returns c =
     let b = seen-is (c .before .before .before .before .before .before .args .g) (c .before .before .before .before .before .before .args .to) (c .before .before .before .before .before .before .args .image .now) (c .before .before .before .read2 .result) (c .before .before .before .read2 .ensures .0) in
     rw (← a, ← b, ← c .before .before .do-agree .ensures, c .before .if1 .taken, c .are-twins .ensures)
 
--- src/moment.rt:98:1
 returns-2 : tie.Need-returns-2
 unfolding lookOf
 returns-2 c =

@@ -6,8 +6,6 @@ use Rattle.cuts.specs.Agree.{equal}
 use Rattle.cuts.proofs.Equal.{other-length, differ, step, whole}
 use Rattle.cuts.proofs.payload.is_equal.Statement.{statement}
 use Rattle.cuts.proofs.payload.is_equal.Tie as tie
-use Rattle.cuts.proofs.payload.is_equal.Reads as reads
-use Rattle.cuts.proofs.payload.is_equal.Lts as lts
 
 abbrev Inv-loop : tie.InvT-loop
 Inv-loop a b i₀ i = (i ≤ length a) × (length a ≡ length b) × (equal a b ≡ equal (drop i a) (drop i b))
@@ -15,39 +13,30 @@ Inv-loop a b i₀ i = (i ≤ length a) × (length a ≡ length b) × (equal a b 
 abbrev μ-loop : tie.MeasureT-loop
 μ-loop a b i₀ i = length a - i
 
--- src/payload.rt:40:9
 returns : tie.Need-returns Inv-loop μ-loop
 returns c = sym (other-length _ _ (c .if1 .taken))
 
--- src/payload.rt:43:5
 loop-holds : tie.Need-loop-holds Inv-loop μ-loop
 loop-holds c = (omega arith, c .if1 .left, refl)
 
--- src/payload.rt:44:12
 shared-slice-read-if2 : tie.Need-shared-slice-read-if2 Inv-loop μ-loop
 shared-slice-read-if2 c = omega arith
 
--- src/payload.rt:44:20
 shared-slice-read-if2-2 : tie.Need-shared-slice-read-if2-2 Inv-loop μ-loop
 shared-slice-read-if2-2 c = omega arith
 
--- src/payload.rt:45:13
 returns-2 : tie.Need-returns-2 Inv-loop μ-loop
 returns-2 c = sym (c .before .before .before .before .loop .inv .2 ∙ differ _ _ _ (c .before .before .before .loop-test .taken) (omega arith) (c .if2 .taken))
 
--- src/payload.rt:47:9
 add-i : tie.Need-add-i Inv-loop μ-loop
 add-i c = omega arith
 
--- src/payload.rt:43:5
 loop-less : tie.Need-loop-less Inv-loop μ-loop
 loop-less c = omega arith
 
--- src/payload.rt:43:5
 loop-again : tie.Need-loop-again Inv-loop μ-loop
 loop-again c = (omega arith, c .before .before .before .before .loop .inv .1, c .before .before .before .before .loop .inv .2 ∙ step _ _ _ (c .before .before .before .loop-test .taken) (omega arith) (c .if2 .left))
 
--- src/payload.rt:36:1
 returns-3 : tie.Need-returns-3 Inv-loop μ-loop
 returns-3 c = sym (c .before .loop .inv .2 ∙ whole _ _ _ (c .loop-test .left) (c .before .loop .inv .1))
 

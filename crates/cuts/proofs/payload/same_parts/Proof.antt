@@ -4,47 +4,34 @@ use native.Mathlib.Omega.{arith}
 use borrow.Author.Needs.{needs}
 use Rattle.cuts.proofs.payload.same_parts.Statement.{statement}
 use Rattle.cuts.proofs.payload.same_parts.Tie as tie
-use Rattle.cuts.proofs.payload.same_parts.Reads as reads
-use Rattle.cuts.proofs.payload.same_parts.Lts as lts
-use Rattle.cuts.proofs.payload.is_equal.Reads as is-equal-reads
 
--- src/payload.rt:60:14
 add-to : tie.Need-add-to
 add-to c = search needs
 
--- src/payload.rt:61:15
 add-end : tie.Need-add-end
 add-end c = search needs
 
--- src/payload.rt:62:14
 sub-is-equal : tie.Need-sub-is-equal
 sub-is-equal c = search needs
 
--- src/payload.rt:62:14
 part-is-equal-start : tie.Need-part-is-equal-start
 part-is-equal-start c = search needs
 
--- src/payload.rt:62:14
 part-is-equal-end : tie.Need-part-is-equal-end
 part-is-equal-end c = search needs
 
--- src/payload.rt:62:29
 sub-is-equal-2 : tie.Need-sub-is-equal-2
 sub-is-equal-2 c = search needs
 
--- src/payload.rt:62:29
 part-is-equal-start-2 : tie.Need-part-is-equal-start-2
 part-is-equal-start-2 c = search needs
 
--- src/payload.rt:62:29
 part-is-equal-end-2 : tie.Need-part-is-equal-end-2
 part-is-equal-end-2 c = search needs
 
--- src/payload.rt:62:5
 is-equal-requires : tie.Need-is-equal-requires
 is-equal-requires c κs = search needs
 
--- src/payload.rt:56:1
 returns : tie.Need-returns
 returns c =
     let e : c .before .before .before .before .args .a + c .before .before .before .before .args .n - c .before .before .before .before .args .a ≡ c .before .before .before .before .args .n = omega arith in

@@ -6,53 +6,37 @@ use Rattle.cuts.proofs.Payloads.{inside, first-unread, second-unread, b
 use borrow.Author.Needs.{needs}
 use Rattle.cuts.proofs.payload.same_payload.Statement.{statement}
 use Rattle.cuts.proofs.payload.same_payload.Tie as tie
-use Rattle.cuts.proofs.payload.same_payload.Reads as reads
-use Rattle.cuts.proofs.payload.same_payload.Lts as lts
-use Rattle.cuts.proofs.payload.image_at.Reads as image-at-reads
-use Rattle.cuts.proofs.payload.may_read.Reads as may-read-reads
-use Rattle.cuts.proofs.payload.same_parts.Reads as same-parts-reads
-use Rattle.objects.proofs.header.ObjectHeader.payload.Reads as payload-reads
 
--- src/payload.rt:78:8
 may-read-requires : tie.Need-may-read-requires
 may-read-requires c κs = search needs
 
--- src/payload.rt:79:9
 returns : tie.Need-returns
 returns c = sym (first-unread _ _ _ _ _ (c .before .may-read .ensures) (c .if1 .taken))
 
--- src/payload.rt:81:8
 may-read-requires-2 : tie.Need-may-read-requires-2
 may-read-requires-2 c κs = search needs
 
--- src/payload.rt:82:9
 returns-2 : tie.Need-returns-2
 returns-2 c = sym (second-unread _ _ _ _ _ _ (c .before .before .before .may-read .ensures) (c .before .before .if1 .left) (c .before .may-read2 .ensures) (c .if2 .taken))
 
--- src/payload.rt:84:23
 image-at-requires : tie.Need-image-at-requires
 image-at-requires c κs = let l : length (c .before .before .before .before .before .args .image .now) < 2 ^ 64 = search needs in small (c .before .before .before .before .before .args .g) (c .before .before .before .before .before .args .a) (c .before .before .before .before .before .args .image .now) (c .before .before .before .may-read .result) (c .before .before .before .may-read .ensures) (c .before .before .if1 .left) l
 
--- src/payload.rt:84:39
 payload-requires : tie.Need-payload-requires
 payload-requires c κs = search needs
 
--- src/payload.rt:84:55
 image-at-requires-2 : tie.Need-image-at-requires-2
 image-at-requires-2 c κs = let l : length (c .before .before .before .before .before .before .before .args .image .now) < 2 ^ 64 = search needs in small (c .before .before .before .before .before .before .before .args .g) (c .before .before .before .before .before .before .before .args .b) (c .before .before .before .before .before .before .before .args .image .now) (c .before .before .before .may-read2 .result) (c .before .before .before .may-read2 .ensures) (c .before .before .if2 .left) l
 
--- src/payload.rt:84:71
 payload-requires-2 : tie.Need-payload-requires-2
 payload-requires-2 c κs = search needs
 
--- src/payload.rt:84:5
 same-parts-requires : tie.Need-same-parts-requires
 same-parts-requires c κs =
     let h = inside (c .before .before .before .before .before .before .before .before .before .args .g) (c .before .before .before .before .before .before .before .before .before .args .a) (c .before .before .before .before .before .before .before .before .before .args .image .now) (c .before .before .before .before .before .before .before .may-read .result) (c .before .before .before .before .before .before .before .may-read .ensures) (c .before .before .before .before .before .before .if1 .left) in
     let k = inside (c .before .before .before .before .before .before .before .before .before .args .g) (c .before .before .before .before .before .before .before .before .before .args .b) (c .before .before .before .before .before .before .before .before .before .args .image .now) (c .before .before .before .before .before .may-read2 .result) (c .before .before .before .before .before .may-read2 .ensures) (c .before .before .before .before .if2 .left) in
     (rw (c .before .before .before .image-at .ensures, c .before .before .payload .ensures .0) h, rw (c .before .image-at2 .ensures, c .payload2 .ensures .0) k)
 
--- src/payload.rt:75:1
 returns-3 : tie.Need-returns-3
 returns-3 c =
     rw (c .before .before .before .before .image-at .ensures, c .before .before .before .payload .ensures .0, c .before .before .image-at2 .ensures, c .before .payload2 .ensures .0) at (c .same-parts .ensures)

@@ -6,8 +6,6 @@ use Rattle.lines.specs.Argument.{numberFrom, numberOf}
 use Rattle.lines.proofs.Arguments.{none, some, low, high, large, step, whole}
 use Rattle.lines.proofs.argument.number_of.Statement.{statement}
 use Rattle.lines.proofs.argument.number_of.Tie as tie
-use Rattle.lines.proofs.argument.number_of.Reads as reads
-use Rattle.lines.proofs.argument.number_of.Lts as lts
 
 abbrev Inv-loop : tie.InvT-loop
 Inv-loop text n₀ i₀ n i = (i ≤ length text) × (n ≤ 4294967295) × (numberOf text ≡ numberFrom n (drop i text))
@@ -15,59 +13,45 @@ Inv-loop text n₀ i₀ n i = (i ≤ length text) × (n ≤ 4294967295) × (numb
 abbrev μ-loop : tie.MeasureT-loop
 μ-loop text n₀ i₀ n i = length text - i
 
--- src/argument.rt:15:9
 returns : tie.Need-returns Inv-loop μ-loop
 returns c = sym (none _ (c .if1 .taken))
 
--- src/argument.rt:19:5
 loop-holds : tie.Need-loop-holds Inv-loop μ-loop
 loop-holds c = (omega arith, omega arith, some _ (omega arith))
 
--- src/argument.rt:20:17
 shared-slice-read-b : tie.Need-shared-slice-read-b Inv-loop μ-loop
 shared-slice-read-b c = omega arith
 
--- src/argument.rt:22:13
 returns-2 : tie.Need-returns-2 Inv-loop μ-loop
 returns-2 c = sym (c .before .before .before .loop .inv .2 ∙ low _ _ _ (c .before .before .loop-test .taken) (c .if2 .taken))
 
--- src/argument.rt:25:13
 returns-3 : tie.Need-returns-3 Inv-loop μ-loop
 returns-3 c = sym (c .before .before .before .before .loop .inv .2 ∙ high _ _ _ (c .before .before .before .loop-test .taken) (c .before .if2 .left) (c .if3 .taken))
 
--- src/argument.rt:27:13
 mul-n : tie.Need-mul-n Inv-loop μ-loop
 mul-n c = omega arith
 
--- src/argument.rt:27:23
 cast-n : tie.Need-cast-n Inv-loop μ-loop
 cast-n c = omega arith
 
--- src/argument.rt:27:13
 add-n : tie.Need-add-n Inv-loop μ-loop
 add-n c = omega arith
 
--- src/argument.rt:29:13
 returns-4 : tie.Need-returns-4 Inv-loop μ-loop
 returns-4 c = sym (c .before .before .before .before .before .loop .inv .2 ∙ large _ _ _ (c .before .before .before .before .loop-test .taken) (c .before .before .if2 .left) (c .before .if3 .left) (c .if4 .taken))
 
--- src/argument.rt:31:9
 add-i : tie.Need-add-i Inv-loop μ-loop
 add-i c = omega arith
 
--- src/argument.rt:19:5
 loop-less : tie.Need-loop-less Inv-loop μ-loop
 loop-less c = omega arith
 
--- src/argument.rt:19:5
 loop-again : tie.Need-loop-again Inv-loop μ-loop
 loop-again c = (omega arith, omega arith, c .before .before .before .before .before .loop .inv .2 ∙ step _ _ _ (c .before .before .before .before .loop-test .taken) (c .before .before .if2 .left) (c .before .if3 .left) (c .if4 .left))
 
--- src/argument.rt:33:21
 cast-t13 : tie.Need-cast-t13 Inv-loop μ-loop
 cast-t13 c = omega arith
 
--- src/argument.rt:11:1
 returns-5 : tie.Need-returns-5 Inv-loop μ-loop
 returns-5 c = sym (c .before .loop .inv .2 ∙ whole _ _ _ (c .loop-test .left))
 

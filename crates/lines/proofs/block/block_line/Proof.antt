@@ -4,37 +4,25 @@ use Rattle.lines.specs.Lines.{blockLine}
 use borrow.Author.Needs.{needs}
 use Rattle.lines.proofs.block.block_line.Statement.{statement}
 use Rattle.lines.proofs.block.block_line.Tie as tie
-use Rattle.lines.proofs.block.block_line.Reads as reads
-use Rattle.lines.proofs.block.block_line.Lts as lts
-use Rattle.lines.proofs.block.put_scan.Reads as put-scan-reads
-use Rattle.lines.proofs.number.put_field.Reads as put-field-reads
-use Rattle.lines.proofs.words.put_word.Reads as put-word-reads
 
--- src/block.rt:68:42
 slice-aggregate-put-word : tie.Need-slice-aggregate-put-word
 slice-aggregate-put-word c = search needs
 
--- src/block.rt:68:9
 put-word-requires : tie.Need-put-word-requires
 put-word-requires c κs = search needs
 
--- src/block.rt:69:9
 put-field-requires : tie.Need-put-field-requires
 put-field-requires c κs = search needs
 
--- src/block.rt:70:9
 put-scan-requires : tie.Need-put-scan-requires
 put-scan-requires c κs = search needs
 
--- src/block.rt:71:33
 slice-aggregate-put-word-2 : tie.Need-slice-aggregate-put-word-2
 slice-aggregate-put-word-2 c = search needs
 
--- src/block.rt:71:5
 put-word-requires-2 : tie.Need-put-word-requires-2
 put-word-requires-2 c κs = search needs
 
--- src/block.rt:65:1
 returns : tie.Need-returns
 unfolding blockLine
 returns c =

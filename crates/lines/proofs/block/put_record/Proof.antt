@@ -3,33 +3,22 @@ use Rattle.lines.proofs.Putting.{both}
 use borrow.Author.Needs.{needs}
 use Rattle.lines.proofs.block.put_record.Statement.{statement}
 use Rattle.lines.proofs.block.put_record.Tie as tie
-use Rattle.lines.proofs.block.put_record.Reads as reads
-use Rattle.lines.proofs.block.put_record.Lts as lts
-use Rattle.lines.proofs.block.put_kind.Reads as put-kind-reads
-use Rattle.lines.proofs.number.put_field.Reads as put-field-reads
-use Rattle.lines.proofs.words.put_yes_no.Reads as put-yes-no-reads
 
--- src/block.rt:47:9
 put-kind-requires : tie.Need-put-kind-requires
 put-kind-requires c κs = search needs
 
--- src/block.rt:48:9
 put-field-requires : tie.Need-put-field-requires
 put-field-requires c κs = search needs
 
--- src/block.rt:49:9
 put-field-requires-2 : tie.Need-put-field-requires-2
 put-field-requires-2 c κs = search needs
 
--- src/block.rt:50:5
 put-yes-no-requires : tie.Need-put-yes-no-requires
 put-yes-no-requires c κs = search needs
 
--- src/block.rt:40:1
 same-length : tie.Need-same-length
 same-length c = search needs
 
--- src/block.rt:40:1
 returns : tie.Need-returns
 returns c = (
   both (both (both (c .before .before .before .before .before .before .before .before .before .before .before .before .before .before .put-kind .ensures .0) (c .before .before .before .before .before .before .before .before .before .before .put-field .ensures .0)) (c .before .before .before .before .before .before .put-field2 .ensures .0)) (c .before .before .put-yes-no .ensures .0),

@@ -4,25 +4,16 @@ use Rattle.lines.specs.Lines.{momentLine}
 use borrow.Author.Needs.{needs}
 use Rattle.lines.proofs.moment.moment_line.Statement.{statement}
 use Rattle.lines.proofs.moment.moment_line.Tie as tie
-use Rattle.lines.proofs.moment.moment_line.Reads as reads
-use Rattle.lines.proofs.moment.moment_line.Lts as lts
-use Rattle.lines.proofs.moment.put_agreement.Reads as put-agreement-reads
-use Rattle.lines.proofs.moment.put_call.Reads as put-call-reads
-use Rattle.lines.proofs.moment.put_pair.Reads as put-pair-reads
 
--- src/moment.rt:78:9
 put-call-requires : tie.Need-put-call-requires
 put-call-requires c κs = search needs
 
--- src/moment.rt:79:9
 put-pair-requires : tie.Need-put-pair-requires
 put-pair-requires c κs = search needs
 
--- src/moment.rt:80:5
 put-agreement-requires : tie.Need-put-agreement-requires
 put-agreement-requires c κs = search needs
 
--- src/moment.rt:67:1
 returns : tie.Need-returns
 unfolding momentLine
 returns c = line (both (both (c .before .before .before .before .put-call .ensures .0) (c .before .before .put-pair .ensures .0)) (c .put-agreement .ensures .0)) (omega (arith, c .before .before .before .before .put-call .ensures .1, c .before .before .put-pair .ensures .1, c .put-agreement .ensures .1))

@@ -3,36 +3,25 @@ use Rattle.lines.proofs.Putting.{both}
 use borrow.Author.Needs.{needs}
 use Rattle.lines.proofs.moment.put_agreement.Statement.{statement}
 use Rattle.lines.proofs.moment.put_agreement.Tie as tie
-use Rattle.lines.proofs.moment.put_agreement.Reads as reads
-use Rattle.lines.proofs.moment.put_agreement.Lts as lts
-use Rattle.lines.proofs.words.put_word.Reads as put-word-reads
-use Rattle.lines.proofs.words.put_yes_no.Reads as put-yes-no-reads
 
--- src/moment.rt:61:45
 slice-aggregate-put-word : tie.Need-slice-aggregate-put-word
 slice-aggregate-put-word c = search needs
 
--- src/moment.rt:61:9
 put-word-requires : tie.Need-put-word-requires
 put-word-requires c κs = search needs
 
--- src/moment.rt:62:9
 put-yes-no-requires : tie.Need-put-yes-no-requires
 put-yes-no-requires c κs = search needs
 
--- src/moment.rt:63:35
 slice-aggregate-put-word-2 : tie.Need-slice-aggregate-put-word-2
 slice-aggregate-put-word-2 c = search needs
 
--- src/moment.rt:63:5
 put-word-requires-2 : tie.Need-put-word-requires-2
 put-word-requires-2 c κs = search needs
 
--- src/moment.rt:56:1
 same-length : tie.Need-same-length
 same-length c = search needs
 
--- src/moment.rt:56:1
 returns : tie.Need-returns
 returns c = (
   both (both (c .before .before .before .before .before .before .before .before .before .before .before .put-word .ensures) (c .before .before .before .before .before .before .before .put-yes-no .ensures .0)) (c .before .before .put-word2 .ensures),

@@ -3,40 +3,28 @@ use Rattle.lines.proofs.Putting.{both}
 use borrow.Author.Needs.{needs}
 use Rattle.lines.proofs.moment.put_call.Statement.{statement}
 use Rattle.lines.proofs.moment.put_call.Tie as tie
-use Rattle.lines.proofs.moment.put_call.Reads as reads
-use Rattle.lines.proofs.moment.put_call.Lts as lts
-use Rattle.lines.proofs.number.put_field.Reads as put-field-reads
-use Rattle.lines.proofs.words.put_word.Reads as put-word-reads
 
--- src/moment.rt:38:45
 slice-aggregate-put-word : tie.Need-slice-aggregate-put-word
 slice-aggregate-put-word c = search needs
 
--- src/moment.rt:38:9
 put-word-requires : tie.Need-put-word-requires
 put-word-requires c κs = search needs
 
--- src/moment.rt:39:9
 put-field-requires : tie.Need-put-field-requires
 put-field-requires c κs = search needs
 
--- src/moment.rt:40:48
 slice-aggregate-put-word-2 : tie.Need-slice-aggregate-put-word-2
 slice-aggregate-put-word-2 c = search needs
 
--- src/moment.rt:40:9
 put-word-requires-2 : tie.Need-put-word-requires-2
 put-word-requires-2 c κs = search needs
 
--- src/moment.rt:41:5
 put-field-requires-2 : tie.Need-put-field-requires-2
 put-field-requires-2 c κs = search needs
 
--- src/moment.rt:33:1
 same-length : tie.Need-same-length
 same-length c = search needs
 
--- src/moment.rt:33:1
 returns : tie.Need-returns
 returns c = (
   both (both (both (c .before .before .before .before .before .before .before .before .before .before .before .before .before .before .before .put-word .ensures) (c .before .before .before .before .before .before .before .before .before .before .before .put-field .ensures .0)) (c .before .before .before .before .before .before .put-word2 .ensures)) (c .before .before .put-field2 .ensures .0),

@@ -3,40 +3,28 @@ use Rattle.lines.proofs.Putting.{both}
 use borrow.Author.Needs.{needs}
 use Rattle.lines.proofs.moment.put_pair.Statement.{statement}
 use Rattle.lines.proofs.moment.put_pair.Tie as tie
-use Rattle.lines.proofs.moment.put_pair.Reads as reads
-use Rattle.lines.proofs.moment.put_pair.Lts as lts
-use Rattle.lines.proofs.moment.put_reading.Reads as put-reading-reads
-use Rattle.lines.proofs.words.put_word.Reads as put-word-reads
 
--- src/moment.rt:50:45
 slice-aggregate-put-word : tie.Need-slice-aggregate-put-word
 slice-aggregate-put-word c = search needs
 
--- src/moment.rt:50:9
 put-word-requires : tie.Need-put-word-requires
 put-word-requires c κs = search needs
 
--- src/moment.rt:51:9
 put-reading-requires : tie.Need-put-reading-requires
 put-reading-requires c κs = search needs
 
--- src/moment.rt:52:48
 slice-aggregate-put-word-2 : tie.Need-slice-aggregate-put-word-2
 slice-aggregate-put-word-2 c = search needs
 
--- src/moment.rt:52:9
 put-word-requires-2 : tie.Need-put-word-requires-2
 put-word-requires-2 c κs = search needs
 
--- src/moment.rt:53:5
 put-reading-requires-2 : tie.Need-put-reading-requires-2
 put-reading-requires-2 c κs = search needs
 
--- src/moment.rt:45:1
 same-length : tie.Need-same-length
 same-length c = search needs
 
--- src/moment.rt:45:1
 returns : tie.Need-returns
 returns c = (
   both (both (both (c .before .before .before .before .before .before .before .before .before .before .before .before .before .before .before .put-word .ensures) (c .before .before .before .before .before .before .before .before .before .before .before .put-reading .ensures .0)) (c .before .before .before .before .before .before .put-word2 .ensures)) (c .before .before .put-reading2 .ensures .0),

@@ -4,63 +4,45 @@ use Rattle.lines.specs.Words.{stateWord}
 use borrow.Author.Needs.{needs}
 use Rattle.lines.proofs.moment.put_reading.Statement.{statement}
 use Rattle.lines.proofs.moment.put_reading.Tie as tie
-use Rattle.lines.proofs.moment.put_reading.Reads as reads
-use Rattle.lines.proofs.moment.put_reading.Lts as lts
-use Rattle.lines.proofs.object.put_header.Reads as put-header-reads
-use Rattle.lines.proofs.refusal.put_refusal.Reads as put-refusal-reads
-use Rattle.lines.proofs.words.put_word.Reads as put-word-reads
 
--- src/moment.rt:26:25
 enum-known-seen : tie.Need-enum-known-seen
 enum-known-seen c = search needs
 
--- src/moment.rt:26:31
 put-header-requires : tie.Need-put-header-requires
 put-header-requires c κs = search needs
 
--- src/moment.rt:27:43
 enum-told : tie.Need-enum-told
 enum-told c = search needs
 
--- src/moment.rt:27:55
 slice-aggregate-put-word : tie.Need-slice-aggregate-put-word
 slice-aggregate-put-word c = search needs
 
--- src/moment.rt:27:27
 put-word-requires : tie.Need-put-word-requires
 put-word-requires c κs = search needs
 
--- src/moment.rt:28:27
 enum-known-seen-2 : tie.Need-enum-known-seen-2
 enum-known-seen-2 c = search needs
 
--- src/moment.rt:28:33
 put-refusal-requires : tie.Need-put-refusal-requires
 put-refusal-requires c κs = search needs
 
--- src/moment.rt:20:1
 same-length : tie.Need-same-length
 same-length c = search needs
 
--- src/moment.rt:20:1
 returns : tie.Need-returns
 unfolding readingText
 returns c = rw (c .before .before .before .before .before .seen .given .1) (c .before .before .put-header .ensures)
 
--- src/moment.rt:20:1
 same-length-2 : tie.Need-same-length-2
 same-length-2 c = search needs
 
--- src/moment.rt:20:1
 returns-2 : tie.Need-returns-2
 unfolding readingText stateWord
 returns-2 c = rw (c .before .before .before .before .before .enum-told .given .1) (c .before .before .put-word .ensures, omega (arith, c .before .before .put-word .ensures .end))
 
--- src/moment.rt:20:1
 same-length-3 : tie.Need-same-length-3
 same-length-3 c = search needs
 
--- src/moment.rt:20:1
 returns-3 : tie.Need-returns-3
 unfolding readingText
 returns-3 c = rw (c .before .before .before .before .before .seen2 .given .1) (c .before .before .put-refusal .ensures .0, omega (arith, c .before .before .put-refusal .ensures .1))

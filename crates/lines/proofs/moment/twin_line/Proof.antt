@@ -4,69 +4,50 @@ use Rattle.lines.specs.Lines.{twinLine}
 use borrow.Author.Needs.{needs}
 use Rattle.lines.proofs.moment.twin_line.Statement.{statement}
 use Rattle.lines.proofs.moment.twin_line.Tie as tie
-use Rattle.lines.proofs.moment.twin_line.Reads as reads
-use Rattle.lines.proofs.moment.twin_line.Lts as lts
-use Rattle.lines.proofs.moment.twin_span.Reads as twin-span-reads
-use Rattle.lines.proofs.number.put_field.Reads as put-field-reads
-use Rattle.lines.proofs.words.put_word.Reads as put-word-reads
 
--- src/moment.rt:88:40
 enum-told : tie.Need-enum-told
 enum-told c = search needs
 
--- src/moment.rt:88:49
 slice-aggregate-put-word : tie.Need-slice-aggregate-put-word
 slice-aggregate-put-word c = search needs
 
--- src/moment.rt:88:24
 put-word-requires : tie.Need-put-word-requires
 put-word-requires c κs = search needs
 
--- src/moment.rt:89:18
 enum-known-twin : tie.Need-enum-known-twin
 enum-known-twin c = search needs
 
--- src/moment.rt:90:50
 slice-aggregate-put-word-2 : tie.Need-slice-aggregate-put-word-2
 slice-aggregate-put-word-2 c = search needs
 
--- src/moment.rt:90:17
 put-word-requires-2 : tie.Need-put-word-requires-2
 put-word-requires-2 c κs = search needs
 
--- src/moment.rt:91:17
 put-field-requires : tie.Need-put-field-requires
 put-field-requires c κs = search needs
 
--- src/moment.rt:92:41
 slice-aggregate-put-word-3 : tie.Need-slice-aggregate-put-word-3
 slice-aggregate-put-word-3 c = search needs
 
--- src/moment.rt:92:13
 put-word-requires-3 : tie.Need-put-word-requires-3
 put-word-requires-3 c κs = search needs
 
--- src/moment.rt:94:20
 enum-known-twin-2 : tie.Need-enum-known-twin-2
 enum-known-twin-2 c = search needs
 
--- src/moment.rt:94:29
 twin-span-requires : tie.Need-twin-span-requires
 twin-span-requires c κs = search needs
 
--- src/moment.rt:84:1
 returns : tie.Need-returns
 unfolding twinLine
 returns c = rw (c .before .before .before .enum-told .given .1) (line (c .put-word .ensures) (omega (arith, c .put-word .ensures .end)))
 
--- src/moment.rt:84:1
 returns-2 : tie.Need-returns-2
 unfolding twinLine
 returns-2 c =
     rw (c .before .before .before .before .before .before .before .before .before .twin .given .1)
     (line (both (both (c .before .before .before .before .before .put-word2 .ensures) (c .before .before .before .put-field .ensures .0)) (c .put-word3 .ensures)) (omega (arith, c .before .before .before .before .before .put-word2 .ensures .end, c .before .before .before .put-field .ensures .1, c .put-word3 .ensures .end)))
 
--- src/moment.rt:84:1
 returns-3 : tie.Need-returns-3
 unfolding twinLine
 returns-3 c = rw (c .before .before .before .twin2 .given .1) (c .twin-span .ensures)

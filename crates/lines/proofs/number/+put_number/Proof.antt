@@ -24,42 +24,36 @@ abbrev put-number-below : ℕ → In 1 put-number-kinds.ps
 put-number-below t =
     and 1 put-number-kinds.ps (falls 1 put-number-kinds.ps _<_ μ-put-number t) put-number.Pre
 
--- src/number.rt:15:23
 put-number-add-buffer : (t : ℕ) → put-number-lts.Need-add-buffer (
   put-number-below t,
   put-number.Post,
 ) (put-number-at t) put-number.Post
 put-number-add-buffer t c = search needs
 
--- src/number.rt:15:22
 put-number-cast-buffer : (t : ℕ) → put-number-lts.Need-cast-buffer (
   put-number-below t,
   put-number.Post,
 ) (put-number-at t) put-number.Post
 put-number-cast-buffer t c = search needs
 
--- src/number.rt:15:9
 put-number-slice-write-buffer : (t : ℕ) → put-number-lts.Need-slice-write-buffer (
   put-number-below t,
   put-number.Post,
 ) (put-number-at t) put-number.Post
 put-number-slice-write-buffer t c = omega (arith, c .before .before .pre .1, one-long (c .before .before .args .n) (c .if1 .taken))
 
--- src/number.rt:16:16
 put-number-add-result : (t : ℕ) → put-number-lts.Need-add-result (
   put-number-below t,
   put-number.Post,
 ) (put-number-at t) put-number.Post
 put-number-add-result t c = omega (arith, c .before .before .pre .1, one-long (c .before .before .args .n) (c .if1 .taken), c .before .before .good .0 .0)
 
--- src/number.rt:16:9
 put-number-same-length : (t : ℕ) → put-number-lts.Need-same-length (
   put-number-below t,
   put-number.Post,
 ) (put-number-at t) put-number.Post
 put-number-same-length t c = simp length-set
 
--- src/number.rt:16:9
 put-number-returns :
     (t : ℕ) →
     put-number-lts.Need-returns
@@ -68,7 +62,6 @@ put-number-returns :
     put-number.Post
 put-number-returns t c = rw (one (c .before .before .args .n) (c .if1 .taken)) (byte _ _ _)
 
--- src/number.rt:18:9
 put-number-put-number-requires : (t : ℕ) → put-number-lts.Need-put-number-requires (
   put-number-below t,
   put-number.Post,
@@ -78,21 +71,18 @@ put-number-put-number-requires t c κs =
     let g = c .before .if1 .left in
     (omega (arith, b .pre .0, g), omega (arith, b .pre .1, split-long (b .args .n) g (b .fits .n .fits)))
 
--- src/number.rt:19:21
 put-number-add-buffer-2 : (t : ℕ) → put-number-lts.Need-add-buffer-2 (
   put-number-below t,
   put-number.Post,
 ) (put-number-at t) put-number.Post
 put-number-add-buffer-2 t c = search needs
 
--- src/number.rt:19:20
 put-number-cast-buffer-2 : (t : ℕ) → put-number-lts.Need-cast-buffer-2 (
   put-number-below t,
   put-number.Post,
 ) (put-number-at t) put-number.Post
 put-number-cast-buffer-2 t c = search needs
 
--- src/number.rt:19:5
 put-number-slice-write-buffer-2 : (t : ℕ) → put-number-lts.Need-slice-write-buffer-2 (
   put-number-below t,
   put-number.Post,
@@ -108,7 +98,6 @@ put-number-slice-write-buffer-2 t c =
       split-long (b .args .n) (s .before .before .if1 .left) (b .fits .n .fits),
     )
 
--- src/number.rt:20:5
 put-number-add-result-2 : (t : ℕ) → put-number-lts.Need-add-result-2 (
   put-number-below t,
   put-number.Post,
@@ -124,14 +113,12 @@ put-number-add-result-2 t c =
       split-long (b .args .n) (s .before .before .if1 .left) (b .fits .n .fits),
     )
 
--- src/number.rt:10:1
 put-number-same-length-2 : (t : ℕ) → put-number-lts.Need-same-length-2 (
   put-number-below t,
   put-number.Post,
 ) (put-number-at t) put-number.Post
 put-number-same-length-2 t c = simp length-set (c .before .before .put-number .kept .0)
 
--- src/number.rt:10:1
 put-number-returns-2 : (t : ℕ) → put-number-lts.Need-returns-2 (
   put-number-below t,
   put-number.Post,

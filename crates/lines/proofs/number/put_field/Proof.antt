@@ -5,27 +5,19 @@ use Rattle.lines.proofs.Putting.{both, byte}
 use borrow.Author.Needs.{needs}
 use Rattle.lines.proofs.number.put_field.Statement.{statement}
 use Rattle.lines.proofs.number.put_field.Tie as tie
-use Rattle.lines.proofs.number.put_field.Reads as reads
-use Rattle.lines.proofs.number.put_field.Lts as lts
-use Rattle.lines.proofs.number.put_number.Reads as put-number-reads
 
--- src/number.rt:29:5
 slice-write-buffer : tie.Need-slice-write-buffer
 slice-write-buffer c = search needs
 
--- src/number.rt:30:24
 add-put-number : tie.Need-add-put-number
 add-put-number c = search needs
 
--- src/number.rt:30:5
 put-number-requires : tie.Need-put-number-requires
 put-number-requires c κs = simp length-set (omega (arith, short (c .before .before .args .n)))
 
--- src/number.rt:24:1
 same-length : tie.Need-same-length
 same-length c = simp length-set at (c .before .before .put-number .kept .0)
 
--- src/number.rt:24:1
 returns : tie.Need-returns
 returns c = (both (byte _ _ _) (c .before .before .put-number .ensures), omega (arith, c .before .before .put-number .ensures .end, short (c .before .before .before .before .before .args .n)))
 

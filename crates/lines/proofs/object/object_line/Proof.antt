@@ -4,37 +4,25 @@ use Rattle.lines.proofs.Putting.{both, line}
 use borrow.Author.Needs.{needs}
 use Rattle.lines.proofs.object.object_line.Statement.{statement}
 use Rattle.lines.proofs.object.object_line.Tie as tie
-use Rattle.lines.proofs.object.object_line.Reads as reads
-use Rattle.lines.proofs.object.object_line.Lts as lts
-use Rattle.lines.proofs.object.put_header.Reads as put-header-reads
-use Rattle.lines.proofs.object.put_place.Reads as put-place-reads
-use Rattle.lines.proofs.words.put_word.Reads as put-word-reads
 
--- src/object.rt:37:42
 slice-aggregate-put-word : tie.Need-slice-aggregate-put-word
 slice-aggregate-put-word c = search needs
 
--- src/object.rt:37:9
 put-word-requires : tie.Need-put-word-requires
 put-word-requires c κs = search needs
 
--- src/object.rt:38:9
 put-place-requires : tie.Need-put-place-requires
 put-place-requires c κs = search needs
 
--- src/object.rt:39:9
 put-header-requires : tie.Need-put-header-requires
 put-header-requires c κs = search needs
 
--- src/object.rt:40:33
 slice-aggregate-put-word-2 : tie.Need-slice-aggregate-put-word-2
 slice-aggregate-put-word-2 c = search needs
 
--- src/object.rt:40:5
 put-word-requires-2 : tie.Need-put-word-requires-2
 put-word-requires-2 c κs = search needs
 
--- src/object.rt:34:1
 returns : tie.Need-returns
 unfolding objectLine
 returns c = line (both (both (both (c .before .before .before .before .before .before .before .put-word .ensures) (c .before .before .before .before .before .put-place .ensures .0)) (c .before .before .before .put-header .ensures .0)) (c .put-word2 .ensures)) (omega (arith, c .before .before .before .before .before .before .before .put-word .ensures .end, c .before .before .before .before .before .put-place .ensures .1, c .before .before .before .put-header .ensures .1, c .put-word2 .ensures .end))

@@ -4,32 +4,22 @@ use Rattle.lines.specs.Lines.{refusalLine}
 use borrow.Author.Needs.{needs}
 use Rattle.lines.proofs.refusal.refusal_line.Statement.{statement}
 use Rattle.lines.proofs.refusal.refusal_line.Tie as tie
-use Rattle.lines.proofs.refusal.refusal_line.Reads as reads
-use Rattle.lines.proofs.refusal.refusal_line.Lts as lts
-use Rattle.lines.proofs.number.put_field.Reads as put-field-reads
-use Rattle.lines.proofs.words.put_word.Reads as put-word-reads
 
--- src/refusal.rt:23:42
 slice-aggregate-put-word : tie.Need-slice-aggregate-put-word
 slice-aggregate-put-word c = search needs
 
--- src/refusal.rt:23:9
 put-word-requires : tie.Need-put-word-requires
 put-word-requires c κs = search needs
 
--- src/refusal.rt:24:9
 put-field-requires : tie.Need-put-field-requires
 put-field-requires c κs = search needs
 
--- src/refusal.rt:25:33
 slice-aggregate-put-word-2 : tie.Need-slice-aggregate-put-word-2
 slice-aggregate-put-word-2 c = search needs
 
--- src/refusal.rt:25:5
 put-word-requires-2 : tie.Need-put-word-requires-2
 put-word-requires-2 c κs = search needs
 
--- src/refusal.rt:20:1
 returns : tie.Need-returns
 unfolding refusalLine
 returns c = line (both (both (c .before .before .before .before .before .put-word .ensures) (c .before .before .before .put-field .ensures .0)) (c .put-word2 .ensures)) (omega (arith, c .before .before .before .before .before .put-word .ensures .end, c .before .before .before .put-field .ensures .1, c .put-word2 .ensures .end))

@@ -3,90 +3,67 @@ use Rattle.lines.specs.Words.{stateWord}
 use borrow.Author.Needs.{needs}
 use Rattle.lines.proofs.words.put_state.Statement.{statement}
 use Rattle.lines.proofs.words.put_state.Tie as tie
-use Rattle.lines.proofs.words.put_state.Reads as reads
-use Rattle.lines.proofs.words.put_state.Lts as lts
-use Rattle.lines.proofs.words.put_word.Reads as put-word-reads
 
--- src/words.rt:57:39
 enum-told : tie.Need-enum-told
 enum-told c = search needs
 
--- src/words.rt:57:51
 slice-aggregate-put-word : tie.Need-slice-aggregate-put-word
 slice-aggregate-put-word c = search needs
 
--- src/words.rt:57:30
 put-word-requires : tie.Need-put-word-requires
 put-word-requires c κs = search needs
 
--- src/words.rt:58:44
 enum-told-2 : tie.Need-enum-told-2
 enum-told-2 c = search needs
 
--- src/words.rt:58:56
 slice-aggregate-put-word-2 : tie.Need-slice-aggregate-put-word-2
 slice-aggregate-put-word-2 c = search needs
 
--- src/words.rt:58:35
 put-word-requires-2 : tie.Need-put-word-requires-2
 put-word-requires-2 c κs = search needs
 
--- src/words.rt:59:44
 enum-told-3 : tie.Need-enum-told-3
 enum-told-3 c = search needs
 
--- src/words.rt:59:56
 slice-aggregate-put-word-3 : tie.Need-slice-aggregate-put-word-3
 slice-aggregate-put-word-3 c = search needs
 
--- src/words.rt:59:35
 put-word-requires-3 : tie.Need-put-word-requires-3
 put-word-requires-3 c κs = search needs
 
--- src/words.rt:60:42
 enum-told-4 : tie.Need-enum-told-4
 enum-told-4 c = search needs
 
--- src/words.rt:60:54
 slice-aggregate-put-word-4 : tie.Need-slice-aggregate-put-word-4
 slice-aggregate-put-word-4 c = search needs
 
--- src/words.rt:60:33
 put-word-requires-4 : tie.Need-put-word-requires-4
 put-word-requires-4 c κs = search needs
 
--- src/words.rt:51:1
 same-length : tie.Need-same-length
 same-length c = search needs
 
--- src/words.rt:51:1
 returns : tie.Need-returns
 unfolding stateWord
 returns c = rw (c .before .before .before .before .before .enum-told .given .1) (c .before .before .put-word .ensures, omega (arith, c .before .before .put-word .ensures .end))
 
--- src/words.rt:51:1
 same-length-2 : tie.Need-same-length-2
 same-length-2 c = search needs
 
--- src/words.rt:51:1
 returns-2 : tie.Need-returns-2
 unfolding stateWord
 returns-2 c = rw (c .before .before .before .before .before .enum-told2 .given .1) (c .before .before .put-word2 .ensures, omega (arith, c .before .before .put-word2 .ensures .end))
 
--- src/words.rt:51:1
 same-length-3 : tie.Need-same-length-3
 same-length-3 c = search needs
 
--- src/words.rt:51:1
 returns-3 : tie.Need-returns-3
 unfolding stateWord
 returns-3 c = rw (c .before .before .before .before .before .enum-told3 .given .1) (c .before .before .put-word3 .ensures, omega (arith, c .before .before .put-word3 .ensures .end))
 
--- src/words.rt:51:1
 same-length-4 : tie.Need-same-length-4
 same-length-4 c = search needs
 
--- src/words.rt:51:1
 returns-4 : tie.Need-returns-4
 unfolding stateWord
 returns-4 c = rw (c .before .before .before .before .before .enum-told4 .given .1) (c .before .before .put-word4 .ensures, omega (arith, c .before .before .put-word4 .ensures .end))

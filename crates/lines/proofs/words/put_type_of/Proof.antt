@@ -3,45 +3,32 @@ use Rattle.lines.specs.Words.{typeOf}
 use borrow.Author.Needs.{needs}
 use Rattle.lines.proofs.words.put_type_of.Statement.{statement}
 use Rattle.lines.proofs.words.put_type_of.Tie as tie
-use Rattle.lines.proofs.words.put_type_of.Reads as reads
-use Rattle.lines.proofs.words.put_type_of.Lts as lts
-use Rattle.lines.proofs.words.put_type.Reads as put-type-reads
-use Rattle.lines.proofs.words.put_word.Reads as put-word-reads
 
--- src/words.rt:46:48
 enum-told : tie.Need-enum-told
 enum-told c = search needs
 
--- src/words.rt:46:60
 slice-aggregate-put-word : tie.Need-slice-aggregate-put-word
 slice-aggregate-put-word c = search needs
 
--- src/words.rt:46:39
 put-word-requires : tie.Need-put-word-requires
 put-word-requires c κs = search needs
 
--- src/words.rt:47:41
 enum-known-state : tie.Need-enum-known-state
 enum-known-state c = search needs
 
--- src/words.rt:47:50
 put-type-requires : tie.Need-put-type-requires
 put-type-requires c κs = search needs
 
--- src/words.rt:40:1
 same-length : tie.Need-same-length
 same-length c = search needs
 
--- src/words.rt:40:1
 returns : tie.Need-returns
 unfolding typeOf
 returns c = rw (c .before .before .before .before .before .enum-told .given .1) (c .before .before .put-word .ensures, omega (arith, c .before .before .put-word .ensures .end))
 
--- src/words.rt:40:1
 same-length-2 : tie.Need-same-length-2
 same-length-2 c = search needs
 
--- src/words.rt:40:1
 returns-2 : tie.Need-returns-2
 unfolding typeOf
 returns-2 c = rw (c .before .before .before .before .before .state .given .1) (c .before .before .put-type .ensures)

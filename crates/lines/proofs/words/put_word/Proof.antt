@@ -7,8 +7,6 @@ use Rattle.lines.specs.Put.{put}
 use Rattle.lines.proofs.Putting.{put-nothing, put-more}
 use Rattle.lines.proofs.words.put_word.Statement.{statement}
 use Rattle.lines.proofs.words.put_word.Tie as tie
-use Rattle.lines.proofs.words.put_word.Reads as reads
-use Rattle.lines.proofs.words.put_word.Lts as lts
 
 abbrev Inv-loop : tie.InvT-loop
 Inv-loop buffer₀ at word i₀ buffer i = (i ≤ length word) × (length buffer ≡ length buffer₀) × (buffer ≡ put buffer₀ at (take i word))
@@ -16,43 +14,33 @@ Inv-loop buffer₀ at word i₀ buffer i = (i ≤ length word) × (length buffer
 abbrev μ-loop : tie.MeasureT-loop
 μ-loop buffer₀ at word i₀ buffer i = length word - i
 
--- src/words.rt:20:5
 loop-holds : tie.Need-loop-holds Inv-loop μ-loop
 loop-holds c = (omega arith, refl, put-nothing _ _)
 
--- src/words.rt:21:26
 shared-slice-read-buffer : tie.Need-shared-slice-read-buffer Inv-loop μ-loop
 shared-slice-read-buffer c = omega arith
 
--- src/words.rt:21:16
 add-buffer : tie.Need-add-buffer Inv-loop μ-loop
 add-buffer c = omega arith
 
--- src/words.rt:21:9
 slice-write-buffer : tie.Need-slice-write-buffer Inv-loop μ-loop
 slice-write-buffer c = omega arith
 
--- src/words.rt:22:9
 add-i : tie.Need-add-i Inv-loop μ-loop
 add-i c = omega arith
 
--- src/words.rt:20:5
 loop-less : tie.Need-loop-less Inv-loop μ-loop
 loop-less c = omega arith
 
--- src/words.rt:20:5
 loop-again : tie.Need-loop-again Inv-loop μ-loop
 loop-again c = (omega arith, simp length-set (c .before .before .loop .inv .1), rw (c .before .before .loop .inv .2) (put-more _ _ _ _ (c .before .loop-test .taken)))
 
--- src/words.rt:24:5
 add-result : tie.Need-add-result Inv-loop μ-loop
 add-result c = omega arith
 
--- src/words.rt:15:1
 same-length : tie.Need-same-length Inv-loop μ-loop
 same-length c = c .before .loop .inv .1
 
--- src/words.rt:15:1
 returns : tie.Need-returns Inv-loop μ-loop
 returns c =
     let h : length (c .before .before .args .word .now) ≤ c .before .loop .i = omega arith in

@@ -3,40 +3,29 @@ use Rattle.lines.specs.Words.{yesNo}
 use borrow.Author.Needs.{needs}
 use Rattle.lines.proofs.words.put_yes_no.Statement.{statement}
 use Rattle.lines.proofs.words.put_yes_no.Tie as tie
-use Rattle.lines.proofs.words.put_yes_no.Reads as reads
-use Rattle.lines.proofs.words.put_yes_no.Lts as lts
-use Rattle.lines.proofs.words.put_word.Reads as put-word-reads
 
--- src/words.rt:82:37
 slice-aggregate-put-word : tie.Need-slice-aggregate-put-word
 slice-aggregate-put-word c = search needs
 
--- src/words.rt:82:9
 put-word-requires : tie.Need-put-word-requires
 put-word-requires c κs = search needs
 
--- src/words.rt:82:9
 same-length : tie.Need-same-length
 same-length c = search needs
 
--- src/words.rt:82:9
 returns : tie.Need-returns
 unfolding yesNo
 returns c = rw (c .before .before .before .before .before .if1 .taken) (c .before .before .put-word .ensures, omega (arith, c .before .before .put-word .ensures .end))
 
--- src/words.rt:84:26
 slice-aggregate-put-word-2 : tie.Need-slice-aggregate-put-word-2
 slice-aggregate-put-word-2 c = search needs
 
--- src/words.rt:84:5
 put-word-requires-2 : tie.Need-put-word-requires-2
 put-word-requires-2 c κs = search needs
 
--- src/words.rt:76:1
 same-length-2 : tie.Need-same-length-2
 same-length-2 c = search needs
 
--- src/words.rt:76:1
 returns-2 : tie.Need-returns-2
 unfolding yesNo
 returns-2 c = rw (c .before .before .before .before .before .if1 .left) (c .before .before .put-word2 .ensures, omega (arith, c .before .before .put-word2 .ensures .end))

@@ -3,25 +3,17 @@ use Rattle.medium.specs.Medium.{alignedOf}
 use borrow.Author.Needs.{needs}
 use Rattle.medium.proofs.geometry.align.Statement.{statement}
 use Rattle.medium.proofs.geometry.align.Tie as tie
-use Rattle.medium.proofs.geometry.align.Reads as reads
-use Rattle.medium.proofs.geometry.align.Lts as lts
-use Rattle.medium.proofs.geometry.fit.Reads as fit-reads
-use Rattle.medium.proofs.granularity.Granularity.align.Reads as align-reads
 
--- src/geometry.rt:93:9
 fit-requires : tie.Need-fit-requires
 fit-requires c κs = search needs
 
--- src/geometry.rt:95:9
 returns : tie.Need-returns
 unfolding alignedOf
 returns c = rw (← c .before .fit .ensures, ne-eqb _ _ (c .if1 .taken))
 
--- src/geometry.rt:98:20
 align-requires : tie.Need-align-requires
 align-requires c κs = search needs
 
--- src/geometry.rt:90:1
 returns-2 : tie.Need-returns-2
 unfolding alignedOf
 returns-2 c = rw (← c .before .before .fit .ensures, eq-eqb _ _ (c .before .if1 .left), c .align .ensures)

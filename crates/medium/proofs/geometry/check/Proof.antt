@@ -7,35 +7,25 @@ use Rattle.medium.proofs.Checks.{fit-sound, fit-stop, fit-room}
 use borrow.Author.Needs.{needs}
 use Rattle.medium.proofs.geometry.check.Statement.{statement}
 use Rattle.medium.proofs.geometry.check.Tie as tie
-use Rattle.medium.proofs.geometry.check.Reads as reads
-use Rattle.medium.proofs.geometry.check.Lts as lts
-use Rattle.medium.proofs.geometry.fit.Reads as fit-reads
 
--- src/geometry.rt:61:9
 fit-requires : tie.Need-fit-requires
 fit-requires c κs = search needs
 
--- src/geometry.rt:63:9
 returns : tie.Need-returns
 returns c = fit-stop _ _ _ (c .before .fit .ensures) (c .if1 .taken)
 
--- src/geometry.rt:65:18
 cast-total : tie.Need-cast-total
 cast-total c = search needs
 
--- src/geometry.rt:65:38
 cast-total-2 : tie.Need-cast-total-2
 cast-total-2 c = search needs
 
--- src/geometry.rt:65:17
 mul-total : tie.Need-mul-total
 mul-total c = let h = fit-sound _ _ (c .before .before .before .fit .ensures) (c .before .before .if1 .left) in fits-le (mul-le-mul {n₂ = 65536} {m₂ = 4294967295} (omega arith) (omega arith)) (fits-lit tt)
 
--- src/geometry.rt:67:9
 returns-2 : tie.Need-returns-2
 returns-2 c = sym (fit-room _ _ _ (c .before .before .before .before .fit .ensures) (c .before .before .before .if1 .left) ∙ rw (ne-eqb _ _ (c .if2 .taken)))
 
--- src/geometry.rt:58:1
 returns-3 : tie.Need-returns-3
 returns-3 c = sym (fit-room _ _ _ (c .before .before .before .before .fit .ensures) (c .before .before .before .if1 .left) ∙ rw (eq-eqb _ _ (c .if2 .left)))
 

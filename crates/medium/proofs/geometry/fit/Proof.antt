@@ -8,66 +8,50 @@ use Rattle.medium.proofs.Checks.{geometry-yes}
 use borrow.Author.Needs.{needs}
 use Rattle.medium.proofs.geometry.fit.Statement.{statement}
 use Rattle.medium.proofs.geometry.fit.Tie as tie
-use Rattle.medium.proofs.geometry.fit.Reads as reads
-use Rattle.medium.proofs.geometry.fit.Lts as lts
-use Rattle.medium.proofs.geometry.limit.Reads as limit-reads
 
--- src/geometry.rt:33:9
 returns : tie.Need-returns
 unfolding geometryOk fitOf
 returns c = simp (lt-leb _ _ (c .if1 .taken))
 
--- src/geometry.rt:36:9
 returns-2 : tie.Need-returns-2
 unfolding geometryOk fitOf
 returns-2 c = simp (lt-leb _ _ (c .if2 .taken), and-false)
 
--- src/geometry.rt:39:9
 returns-3 : tie.Need-returns-3
 unfolding geometryOk fitOf
 returns-3 c = simp (ne-eqb _ _ (c .if3 .taken), and-false)
 
--- src/geometry.rt:41:8
 limit-requires : tie.Need-limit-requires
 limit-requires c κs = search needs
 
--- src/geometry.rt:42:9
 returns-4 : tie.Need-returns-4
 unfolding geometryOk fitOf
 returns-4 c = simp (lt-leb _ _ (rw (c .before .limit .ensures) at (c .if4 .taken)), and-false)
 
--- src/geometry.rt:45:9
 returns-5 : tie.Need-returns-5
 unfolding geometryOk fitOf
 returns-5 c = simp (lt-leb _ _ (c .if5 .taken), and-false)
 
--- src/geometry.rt:47:8
 limit-requires-2 : tie.Need-limit-requires-2
 limit-requires-2 c κs = search needs
 
--- src/geometry.rt:48:9
 returns-6 : tie.Need-returns-6
 unfolding geometryOk fitOf
 returns-6 c = simp (lt-leb _ _ (rw (c .before .limit2 .ensures) at (c .if6 .taken)), and-false)
 
--- src/geometry.rt:50:18
 cast-total : tie.Need-cast-total
 cast-total c = search needs
 
--- src/geometry.rt:50:36
 cast-total-2 : tie.Need-cast-total-2
 cast-total-2 c = search needs
 
--- src/geometry.rt:50:17
 mul-total : tie.Need-mul-total
 mul-total c = fits-le (mul-le-mul {n₂ = 65536} {m₂ = 4294967295} (omega arith) (omega arith)) (fits-lit tt)
 
--- src/geometry.rt:52:9
 returns-7 : tie.Need-returns-7
 unfolding geometryOk fitOf
 returns-7 c = simp (lt-leb _ _ (c .if7 .taken), and-false)
 
--- src/geometry.rt:27:1
 returns-8 : tie.Need-returns-8
 unfolding fitOf
 returns-8 c = simp (geometry-yes (c .before .before .before .before .before .before .before .before .before .args .g) (omega arith) (omega arith) (omega arith) (omega arith) (omega arith) (omega arith) (omega arith))

@@ -1,22 +1,16 @@
 use Rattle.objects.proofs.Numbers.{unset-other}
 use Rattle.objects.proofs.header.unset.Statement.{statement}
 use Rattle.objects.proofs.header.unset.Tie as tie
-use Rattle.objects.proofs.header.unset.Reads as reads
-use Rattle.objects.proofs.header.unset.Lts as lts
 
--- src/header.rt:54:1
 returns : tie.Need-returns
 returns c = rw (c .match .keys1)
 
--- src/header.rt:54:1
 returns-2 : tie.Need-returns-2
 returns-2 c = rw (c .match .keys2)
 
--- src/header.rt:54:1
 returns-3 : tie.Need-returns-3
 returns-3 c = rw (c .match .keys3)
 
--- src/header.rt:54:1
 returns-4 : tie.Need-returns-4
 returns-4 c = unset-other _ (c .match .rest .0 .0 .1) (c .match .rest .0 .1) (c .match .rest .1)
 

@@ -5,25 +5,17 @@ use Rattle.objects.proofs.Reading.{payload-le}
 use borrow.Author.Needs.{needs}
 use Rattle.objects.proofs.info.span.Statement.{statement}
 use Rattle.objects.proofs.info.span.Tie as tie
-use Rattle.objects.proofs.info.span.Reads as reads
-use Rattle.objects.proofs.info.span.Lts as lts
-use Rattle.medium.proofs.granularity.Granularity.align.Reads as align-reads
-use Rattle.objects.proofs.info.total.Reads as total-reads
 
--- src/info.rt:90:13
 total-requires : tie.Need-total-requires
 total-requires c κs = search needs
 
--- src/info.rt:90:13
 cast-align : tie.Need-cast-align
 unfolding totalOf
 cast-align c = let h = header-small (c .before .args .k) (c .before .args .s) in let p = payload-le (c .before .args .s) (c .before .args .h) in omega (arith, c .total .ensures .0, c .before .pre)
 
--- src/info.rt:90:5
 align-requires : tie.Need-align-requires
 align-requires c κs = search needs
 
--- src/info.rt:86:1
 returns : tie.Need-returns
 returns c = rw (c .align .ensures, c .before .total .ensures .0)
 

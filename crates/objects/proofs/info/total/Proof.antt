@@ -4,24 +4,16 @@ use Rattle.objects.proofs.Places.{header-small}
 use borrow.Author.Needs.{needs}
 use Rattle.objects.proofs.info.total.Statement.{statement}
 use Rattle.objects.proofs.info.total.Tie as tie
-use Rattle.objects.proofs.info.total.Reads as reads
-use Rattle.objects.proofs.info.total.Lts as lts
-use Rattle.medium.proofs.granularity.Granularity.object_header.Reads as object-header-reads
-use Rattle.objects.proofs.header.ObjectHeader.payload.Reads as payload-reads
 
--- src/info.rt:57:5
 object-header-requires : tie.Need-object-header-requires
 object-header-requires c κs = search needs
 
--- src/info.rt:57:26
 payload-requires : tie.Need-payload-requires
 payload-requires c κs = search needs
 
--- src/info.rt:57:5
 add-result : tie.Need-add-result
 add-result c = let h = header-small (c .before .before .args .k) (c .before .before .args .s) in omega (arith, c .before .object-header .ensures, c .payload .ensures .1)
 
--- src/info.rt:53:1
 returns : tie.Need-returns
 unfolding totalOf
 returns c = let h = header-small (c .before .before .args .k) (c .before .before .args .s) in (rw (c .before .object-header .ensures, c .payload .ensures .0), omega (arith, c .before .object-header .ensures, c .payload .ensures .1))

@@ -7,8 +7,6 @@ use Rattle.objects.specs.Numbers.{bytes}
 use Rattle.objects.proofs.Numbers.{putFrom, put-more, put-all}
 use Rattle.objects.proofs.location.put_number.Statement.{statement}
 use Rattle.objects.proofs.location.put_number.Tie as tie
-use Rattle.objects.proofs.location.put_number.Reads as reads
-use Rattle.objects.proofs.location.put_number.Lts as lts
 
 abbrev Inv-loop : tie.InvT-loop
 Inv-loop room₀ n left₀ i₀ room left i = (i ≤ length room₀) × (length room ≡ length room₀) × (putFrom i room left ≡ bytes (length room₀) n)
@@ -16,35 +14,27 @@ Inv-loop room₀ n left₀ i₀ room left i = (i ≤ length room₀) × (length 
 abbrev μ-loop : tie.MeasureT-loop
 μ-loop room₀ n left₀ i₀ room left i = length room₀ - i
 
--- src/location.rt:56:5
 loop-holds : tie.Need-loop-holds Inv-loop μ-loop
 loop-holds c = (search needs, refl, refl)
 
--- src/location.rt:57:19
 cast-room : tie.Need-cast-room Inv-loop μ-loop
 cast-room c = search needs
 
--- src/location.rt:57:9
 slice-write-room : tie.Need-slice-write-room Inv-loop μ-loop
 slice-write-room c = omega arith
 
--- src/location.rt:59:9
 add-i : tie.Need-add-i Inv-loop μ-loop
 add-i c = omega arith
 
--- src/location.rt:56:5
 loop-less : tie.Need-loop-less Inv-loop μ-loop
 loop-less c = omega arith
 
--- src/location.rt:56:5
 loop-again : tie.Need-loop-again Inv-loop μ-loop
 loop-again c = let h : c .before .loop .i < length (c .before .loop .room) = omega arith in (omega arith, simp length-set (c .before .loop .inv .1), put-more _ _ _ _ h (c .before .loop .inv .2))
 
--- src/location.rt:51:1
 same-length : tie.Need-same-length Inv-loop μ-loop
 same-length c = c .before .loop .inv .1
 
--- src/location.rt:51:1
 returns : tie.Need-returns Inv-loop μ-loop
 returns c = let h : length (c .before .loop .room) ≤ c .before .loop .i = omega arith in sym (put-all (c .before .loop .i) (c .before .loop .room) (c .before .loop .left) h) ∙ c .before .loop .inv .2
 

@@ -3,23 +3,16 @@ use Rattle.objects.proofs.Places.{header-small}
 use borrow.Author.Needs.{needs}
 use Rattle.objects.proofs.metadata.hash_at.Statement.{statement}
 use Rattle.objects.proofs.metadata.hash_at.Tie as tie
-use Rattle.objects.proofs.metadata.hash_at.Reads as reads
-use Rattle.objects.proofs.metadata.hash_at.Lts as lts
-use Rattle.medium.proofs.granularity.Granularity.object_header.Reads as object-header-reads
 
--- src/metadata.rt:107:6
 cast-result : tie.Need-cast-result
 cast-result c = search needs
 
--- src/metadata.rt:107:28
 object-header-requires : tie.Need-object-header-requires
 object-header-requires c κs = search needs
 
--- src/metadata.rt:107:5
 add-result : tie.Need-add-result
 add-result c = let h = header-small (c .before .before .before .args .g .granularity) (c .before .before .before .args .g .s) in omega (arith, c .object-header .ensures)
 
--- src/metadata.rt:101:1
 returns : tie.Need-returns
 returns c = let h = header-small (c .before .before .before .args .g .granularity) (c .before .before .before .args .g .s) in (rw (c .object-header .ensures), omega (arith, c .object-header .ensures))
 

@@ -5,35 +5,25 @@ use lib.Seq.{length-take-le}
 use borrow.Author.Needs.{needs}
 use Rattle.objects.proofs.metadata.location_at.Statement.{statement}
 use Rattle.objects.proofs.metadata.location_at.Tie as tie
-use Rattle.objects.proofs.metadata.location_at.Reads as reads
-use Rattle.objects.proofs.metadata.location_at.Lts as lts
-use Rattle.objects.proofs.metadata.location_in.Reads as location-in-reads
 
--- src/metadata.rt:95:14
 cast-n : tie.Need-cast-n
 cast-n c = search needs
 
--- src/metadata.rt:95:31
 cast-n-2 : tie.Need-cast-n-2
 cast-n-2 c = search needs
 
--- src/metadata.rt:95:13
 add-n : tie.Need-add-n
 add-n c = search needs
 
--- src/metadata.rt:97:38
 array-borrow-prefix-buffer : tie.Need-array-borrow-prefix-buffer
 array-borrow-prefix-buffer c = search needs
 
--- src/metadata.rt:97:38
 slice-aggregate-location-in : tie.Need-slice-aggregate-location-in
 slice-aggregate-location-in c = let h : c .before .before .before .before .args .g .c + c .before .before .before .before .args .g .s ≤ 6 = omega (arith, c .before .before .before .before .pre .0, c .before .before .before .before .pre .1) in sym (length-take-le _ _ h)
 
--- src/metadata.rt:97:5
 location-in-requires : tie.Need-location-in-requires
 location-in-requires c κs = let h : c .before .before .before .before .args .g .c + c .before .before .before .before .args .g .s ≤ 6 = omega (arith, c .before .before .before .before .pre .0, c .before .before .before .before .pre .1) in length-take-le _ _ h
 
--- src/metadata.rt:91:1
 returns : tie.Need-returns
 returns c = search needs
 

@@ -2,42 +2,30 @@ use Rattle.objects.specs.Metadata.{metadataAt}
 use borrow.Author.Needs.{needs}
 use Rattle.objects.proofs.metadata.read_at.Statement.{statement}
 use Rattle.objects.proofs.metadata.read_at.Tie as tie
-use Rattle.objects.proofs.metadata.read_at.Reads as reads
-use Rattle.objects.proofs.metadata.read_at.Lts as lts
-use Rattle.objects.proofs.info.read.Reads as info-read-reads
-use Rattle.objects.proofs.metadata.read.Reads as metadata-read-reads
 
--- src/metadata.rt:137:9
 read-requires : tie.Need-read-requires
 read-requires c κs = search needs
 
--- src/metadata.rt:139:25
 enum-known-r : tie.Need-enum-known-r
 enum-known-r c = search needs
 
--- src/metadata.rt:139:31
 read-requires-2 : tie.Need-read-requires-2
 read-requires-2 c κs = search needs
 
--- src/metadata.rt:140:27
 enum-told : tie.Need-enum-told
 enum-told c = search needs
 
--- src/metadata.rt:141:27
 enum-known-r-2 : tie.Need-enum-known-r-2
 enum-known-r-2 c = search needs
 
--- src/metadata.rt:134:1
 returns : tie.Need-returns
 unfolding metadataAt
 returns c = rw (← c .before .before .before .before .read .ensures .0, c .before .before .r .given .1) (c .read2 .ensures)
 
--- src/metadata.rt:134:1
 returns-2 : tie.Need-returns-2
 unfolding metadataAt
 returns-2 c = rw (← c .before .before .read .ensures .0, c .enum-told .given .1)
 
--- src/metadata.rt:134:1
 returns-3 : tie.Need-returns-3
 unfolding metadataAt
 returns-3 c = rw (← c .before .before .before .read .ensures .0, c .before .r2 .given .1)

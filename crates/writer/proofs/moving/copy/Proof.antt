@@ -9,10 +9,6 @@ use Rattle.writer.specs.Moving.{copying}
 use Rattle.writer.proofs.Turns.{copy-start, copy-step, copy-end}
 use Rattle.writer.proofs.moving.copy.Statement.{statement}
 use Rattle.writer.proofs.moving.copy.Tie as tie
-use Rattle.writer.proofs.moving.copy.Reads as reads
-use Rattle.writer.proofs.moving.copy.Lts as lts
-use Rattle.writer.proofs.moving.copy_some.Reads as copy-some-reads
-use Rattle.writer.proofs.moving.least.Reads as least-reads
 
 abbrev Inv-loop : tie.InvT-loop
 Inv-loop g image₀ block from n turns fuse₀ v₀ i₀ image fuse v i =

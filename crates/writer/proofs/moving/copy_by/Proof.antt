@@ -4,11 +4,6 @@ use Rattle.writer.specs.Moving.{chunk}
 use borrow.Author.Needs.{needs}
 use Rattle.writer.proofs.moving.copy_by.Statement.{statement}
 use Rattle.writer.proofs.moving.copy_by.Tie as tie
-use Rattle.writer.proofs.moving.copy_by.Reads as reads
-use Rattle.writer.proofs.moving.copy_by.Lts as lts
-use Rattle.medium.proofs.fuse.Answered.number.Reads as number-reads
-use Rattle.medium.proofs.read.Reads as read-reads
-use Rattle.writer.proofs.writer.ObjectWriter.write.Reads as write-reads
 
 read-requires : tie.Need-read-requires
 read-requires c κs = search needs

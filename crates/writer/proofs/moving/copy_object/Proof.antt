@@ -5,11 +5,6 @@ use Rattle.writer.proofs.Turns.{copy-whole}
 use borrow.Author.Needs.{needs}
 use Rattle.writer.proofs.moving.copy_object.Statement.{statement}
 use Rattle.writer.proofs.moving.copy_object.Tie as tie
-use Rattle.writer.proofs.moving.copy_object.Reads as reads
-use Rattle.writer.proofs.moving.copy_object.Lts as lts
-use Rattle.writer.proofs.moving.SourceRead.number.Reads as number-reads
-use Rattle.writer.proofs.moving.find_source.Reads as find-source-reads
-use Rattle.writer.proofs.moving.write_copy.Reads as write-copy-reads
 
 find-source-requires : tie.Need-find-source-requires
 find-source-requires c κs = search needs

@@ -3,9 +3,6 @@ use lib.Seq.{length-take-le}
 use borrow.Author.Needs.{needs}
 use Rattle.writer.proofs.moving.copy_some.Statement.{statement}
 use Rattle.writer.proofs.moving.copy_some.Tie as tie
-use Rattle.writer.proofs.moving.copy_some.Reads as reads
-use Rattle.writer.proofs.moving.copy_some.Lts as lts
-use Rattle.writer.proofs.moving.copy_by.Reads as copy-by-reads
 
 array-borrow-prefix-buffer : tie.Need-array-borrow-prefix-buffer
 array-borrow-prefix-buffer c = search needs

@@ -2,11 +2,6 @@ use Rattle.writer.specs.Moving.{sourceAt}
 use borrow.Author.Needs.{needs}
 use Rattle.writer.proofs.moving.find_source.Statement.{statement}
 use Rattle.writer.proofs.moving.find_source.Tie as tie
-use Rattle.writer.proofs.moving.find_source.Reads as reads
-use Rattle.writer.proofs.moving.find_source.Lts as lts
-use Rattle.objects.proofs.header.ObjectHeader.payload.Reads as payload-reads
-use Rattle.objects.proofs.reader.ObjectReader.new.Reads as new-reads
-use Rattle.objects.proofs.reader.ReaderRead.number.Reads as number-reads
 
 new-requires : tie.Need-new-requires
 new-requires c κs = search needs

@@ -4,10 +4,6 @@ use Rattle.writer.specs.Moving.{moveObject}
 use borrow.Author.Needs.{needs}
 use Rattle.writer.proofs.moving.move_object.Statement.{statement}
 use Rattle.writer.proofs.moving.move_object.Tie as tie
-use Rattle.writer.proofs.moving.move_object.Reads as reads
-use Rattle.writer.proofs.moving.move_object.Lts as lts
-use Rattle.objects.proofs.header.ObjectHeader.set_state.Reads as set-state-reads
-use Rattle.writer.proofs.moving.copy_object.Reads as copy-object-reads
 
 copy-object-requires : tie.Need-copy-object-requires
 copy-object-requires c κs = search needs

@@ -5,12 +5,6 @@ use Rattle.writer.specs.Steps.{writeCopy}
 use borrow.Author.Needs.{needs}
 use Rattle.writer.proofs.moving.write_copy.Statement.{statement}
 use Rattle.writer.proofs.moving.write_copy.Tie as tie
-use Rattle.writer.proofs.moving.write_copy.Reads as reads
-use Rattle.writer.proofs.moving.write_copy.Lts as lts
-use Rattle.writer.proofs.moving.copy.Reads as copy-reads
-use Rattle.writer.proofs.moving.payload_at.Reads as payload-at-reads
-use Rattle.writer.proofs.writer.ObjectWriter.allocate.Reads as allocate-reads
-use Rattle.writer.proofs.writer.ObjectWriter.finalize.Reads as finalize-reads
 
 allocate-requires : tie.Need-allocate-requires
 allocate-requires c κs = search needs

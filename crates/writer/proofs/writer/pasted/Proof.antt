@@ -7,8 +7,6 @@ use lib.Seq.{paste, paste-zero}
 use Rattle.writer.proofs.Laws.{paste-more}
 use Rattle.writer.proofs.writer.pasted.Statement.{statement}
 use Rattle.writer.proofs.writer.pasted.Tie as tie
-use Rattle.writer.proofs.writer.pasted.Reads as reads
-use Rattle.writer.proofs.writer.pasted.Lts as lts
 
 abbrev Inv-loop : tie.InvT-loop
 Inv-loop at src w₀ i₀ w i = (i ≤ length src) × (w ≡ paste w₀ at src i)

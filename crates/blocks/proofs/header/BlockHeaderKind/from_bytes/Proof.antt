@@ -4,39 +4,26 @@ use Rattle.blocks.proofs.Headers.{type-within}
 use borrow.Author.Needs.{needs}
 use Rattle.blocks.proofs.header.BlockHeaderKind.from_bytes.Statement.{statement}
 use Rattle.blocks.proofs.header.BlockHeaderKind.from_bytes.Tie as tie
-use Rattle.blocks.proofs.header.BlockHeaderKind.from_bytes.Reads as reads
-use Rattle.blocks.proofs.header.BlockHeaderKind.from_bytes.Lts as lts
-use Rattle.blocks.proofs.header.BlockHeaderKind.named.Reads as named-reads
-use Rattle.blocks.proofs.header.is_unnamed.Reads as is-unnamed-reads
-use Rattle.blocks.proofs.header.layout.Reads as layout-reads
-use Rattle.medium.proofs.granularity.Granularity.type_at.Reads as type-at-reads
 
--- src/header.rt:146:13
 type-at-requires : tie.Need-type-at-requires
 type-at-requires c κs = search needs
 
--- src/header.rt:147:17
 shared-slice-read-t : tie.Need-shared-slice-read-t
 shared-slice-read-t c = omega (arith, c .before .before .before .pre, c .before .type-at .ensures, type-within (c .before .before .before .args .g .granularity))
 
--- src/header.rt:148:12
 is-unnamed-requires : tie.Need-is-unnamed-requires
 is-unnamed-requires c κs = search needs
 
--- src/header.rt:149:48
 layout-requires : tie.Need-layout-requires
 layout-requires c κs = search needs
 
--- src/header.rt:149:13
 named-requires : tie.Need-named-requires
 named-requires c κs = search needs
 
--- src/header.rt:149:13
 returns : tie.Need-returns
 unfolding kindIn
 returns c = rw (← c .before .before .before .before .before .type-at .ensures, ← c .before .before .before .is-unnamed .ensures, c .before .before .if1 .taken, ← c .before .layout .ensures) (c .named .ensures)
 
--- src/header.rt:140:5
 returns-2 : tie.Need-returns-2
 unfolding kindIn
 returns-2 c = rw (← c .before .is-unnamed .ensures, c .if1 .left)

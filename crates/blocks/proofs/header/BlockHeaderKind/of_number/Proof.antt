@@ -2,35 +2,27 @@ use borrow.Author.Tests.{ne-eqb}
 use Rattle.blocks.specs.Record.{kindOf}
 use Rattle.blocks.proofs.header.BlockHeaderKind.of_number.Statement.{statement}
 use Rattle.blocks.proofs.header.BlockHeaderKind.of_number.Tie as tie
-use Rattle.blocks.proofs.header.BlockHeaderKind.of_number.Reads as reads
-use Rattle.blocks.proofs.header.BlockHeaderKind.of_number.Lts as lts
 
--- src/header.rt:115:5
 returns : tie.Need-returns
 unfolding kindOf
 returns c = rw (c .match .keys1)
 
--- src/header.rt:115:5
 returns-2 : tie.Need-returns-2
 unfolding kindOf
 returns-2 c = rw (c .match .keys2)
 
--- src/header.rt:115:5
 returns-3 : tie.Need-returns-3
 unfolding kindOf
 returns-3 c = rw (c .match .keys3)
 
--- src/header.rt:115:5
 returns-4 : tie.Need-returns-4
 unfolding kindOf
 returns-4 c = rw (c .match .keys4)
 
--- src/header.rt:115:5
 returns-5 : tie.Need-returns-5
 unfolding kindOf
 returns-5 c = rw (c .match .keys5)
 
--- src/header.rt:115:5
 returns-6 : tie.Need-returns-6
 unfolding kindOf
 returns-6 c = simp (ne-eqb _ _ (c .match .rest .0 .0 .0 .0 .1), ne-eqb _ _ (c .match .rest .0 .0 .0 .1), ne-eqb _ _ (c .match .rest .0 .0 .1), ne-eqb _ _ (c .match .rest .0 .1), ne-eqb _ _ (c .match .rest .1))

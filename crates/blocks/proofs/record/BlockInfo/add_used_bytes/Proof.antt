@@ -7,42 +7,30 @@ use Rattle.objects.proofs.Answers.{or-on, or-stop}
 use borrow.Author.Needs.{needs}
 use Rattle.blocks.proofs.record.BlockInfo.add_used_bytes.Statement.{statement}
 use Rattle.blocks.proofs.record.BlockInfo.add_used_bytes.Tie as tie
-use Rattle.blocks.proofs.record.BlockInfo.add_used_bytes.Reads as reads
-use Rattle.blocks.proofs.record.BlockInfo.add_used_bytes.Lts as lts
-use Rattle.medium.proofs.geometry.fit.Reads as fit-reads
-use Rattle.medium.proofs.granularity.Granularity.align.Reads as align-reads
 
--- src/record.rt:115:13
 fit-requires : tie.Need-fit-requires
 fit-requires c κs = search needs
 
--- src/record.rt:117:13
 returns : tie.Need-returns
 unfolding addUsedBytes
 returns c = rw (or-stop _ _ (c .before .fit .ensures) (c .if1 .taken))
 
--- src/record.rt:120:21
 cast-used : tie.Need-cast-used
 cast-used c = search needs
 
--- src/record.rt:120:49
 align-requires : tie.Need-align-requires
 align-requires c κs = search needs
 
--- src/record.rt:120:20
 add-used : tie.Need-add-used
 add-used c = omega (arith, c .align .ensures, align-le (widthOf (c .before .before .before .before .args .g .granularity)) (c .before .before .before .before .args .total-size) (width-is (c .before .before .before .before .args .g .granularity) .1))
 
--- src/record.rt:122:13
 returns-2 : tie.Need-returns-2
 unfolding addUsedBytes
 returns-2 c = rw (or-on _ _ (c .before .before .before .before .fit .ensures) (c .before .before .before .if1 .left), ← c .before .align .ensures, lt-leb _ _ (c .if2 .taken))
 
--- src/record.rt:127:25
 cast-t11 : tie.Need-cast-t11
 cast-t11 c = search needs
 
--- src/record.rt:112:5
 returns-3 : tie.Need-returns-3
 unfolding addUsedBytes
 returns-3 c = rw (or-on _ _ (c .before .before .before .before .before .fit .ensures) (c .before .before .before .before .if1 .left), ← c .before .before .align .ensures, le-leb _ _ (c .before .if2 .left))

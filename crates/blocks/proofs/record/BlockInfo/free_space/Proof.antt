@@ -4,29 +4,21 @@ use Rattle.objects.proofs.Answers.{or-on, or-stop}
 use borrow.Author.Needs.{needs}
 use Rattle.blocks.proofs.record.BlockInfo.free_space.Statement.{statement}
 use Rattle.blocks.proofs.record.BlockInfo.free_space.Tie as tie
-use Rattle.blocks.proofs.record.BlockInfo.free_space.Reads as reads
-use Rattle.blocks.proofs.record.BlockInfo.free_space.Lts as lts
-use Rattle.medium.proofs.geometry.fit.Reads as fit-reads
 
--- src/record.rt:86:13
 fit-requires : tie.Need-fit-requires
 fit-requires c κs = search needs
 
--- src/record.rt:88:13
 returns : tie.Need-returns
 unfolding freeSpace
 returns c = rw (or-stop _ _ (c .before .fit .ensures) (c .if1 .taken))
 
--- src/record.rt:91:13
 returns-2 : tie.Need-returns-2
 unfolding freeSpace
 returns-2 c = rw (or-on _ _ (c .before .before .before .before .fit .ensures) (c .before .before .before .if1 .left), lt-leb _ _ (c .if2 .taken))
 
--- src/record.rt:93:24
 cast-t6 : tie.Need-cast-t6
 cast-t6 c = search needs
 
--- src/record.rt:83:5
 returns-3 : tie.Need-returns-3
 unfolding freeSpace
 returns-3 c = rw (or-on _ _ (c .before .before .before .before .before .before .fit .ensures) (c .before .before .before .before .before .if1 .left), le-leb _ _ (c .before .before .if2 .left))

@@ -4,34 +4,24 @@ use Rattle.objects.proofs.Answers.{or-on, or-stop}
 use borrow.Author.Needs.{needs}
 use Rattle.blocks.proofs.record.BlockInfo.is_empty.Statement.{statement}
 use Rattle.blocks.proofs.record.BlockInfo.is_empty.Tie as tie
-use Rattle.blocks.proofs.record.BlockInfo.is_empty.Reads as reads
-use Rattle.blocks.proofs.record.BlockInfo.is_empty.Lts as lts
-use Rattle.medium.proofs.geometry.fit.Reads as fit-reads
-use Rattle.medium.proofs.granularity.Granularity.block_header.Reads as block-header-reads
 
--- src/record.rt:100:13
 fit-requires : tie.Need-fit-requires
 fit-requires c κs = search needs
 
--- src/record.rt:102:13
 returns : tie.Need-returns
 unfolding recordEmpty
 returns c = rw (or-stop _ _ (c .before .fit .ensures) (c .if1 .taken))
 
--- src/record.rt:105:13
 cast-if2 : tie.Need-cast-if2
 cast-if2 c = search needs
 
--- src/record.rt:105:42
 block-header-requires : tie.Need-block-header-requires
 block-header-requires c κs = search needs
 
--- src/record.rt:106:13
 returns-2 : tie.Need-returns-2
 unfolding recordEmpty
 returns-2 c = rw (or-on _ _ (c .before .before .before .before .fit .ensures) (c .before .before .before .if1 .left), ← c .before .block-header .ensures, le-leb _ _ (c .if2 .taken))
 
--- src/record.rt:97:5
 returns-3 : tie.Need-returns-3
 unfolding recordEmpty
 returns-3 c = rw (or-on _ _ (c .before .before .before .before .fit .ensures) (c .before .before .before .if1 .left), ← c .before .block-header .ensures, lt-leb _ _ (c .if2 .left))

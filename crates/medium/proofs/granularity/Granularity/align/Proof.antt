@@ -4,25 +4,16 @@ use Rattle.medium.proofs.Places.{width-is, taken-le}
 use borrow.Author.Needs.{needs}
 use Rattle.medium.proofs.granularity.Granularity.align.Statement.{statement}
 use Rattle.medium.proofs.granularity.Granularity.align.Tie as tie
-use Rattle.medium.proofs.granularity.Granularity.align.Reads as reads
-use Rattle.medium.proofs.granularity.Granularity.align.Lts as lts
-use Rattle.medium.proofs.granularity.Granularity.width.Reads as width-reads
-use Rattle.medium.proofs.granularity.units.Reads as units-reads
 
--- src/geometry.rt:62:13
 width-requires : tie.Need-width-requires
 width-requires c κs = search needs
 
--- src/geometry.rt:62:13
--- src/geometry.rt:63:5
 units-requires : tie.Need-units-requires
 units-requires c κs = let w = width-is (c .before .args .self) in omega (arith, c .width .ensures)
 
--- src/geometry.rt:63:5
 mul-result : tie.Need-mul-result
 mul-result c = let w = width-is (c .before .before .args .self) in let h = taken-le _ _ _ (c .units .ensures) (omega (arith, c .before .width .ensures)) in omega arith
 
--- src/geometry.rt:59:1
 returns : tie.Need-returns
 returns c = rw (c .units .ensures, c .before .width .ensures)
 

@@ -1,38 +1,28 @@
 use borrow.Author.Needs.{needs}
 use Rattle.medium.proofs.granularity.Granularity.object_header.Statement.{statement}
 use Rattle.medium.proofs.granularity.Granularity.object_header.Tie as tie
-use Rattle.medium.proofs.granularity.Granularity.object_header.Reads as reads
-use Rattle.medium.proofs.granularity.Granularity.object_header.Lts as lts
 
--- src/granularity.rt:144:54
 enum-told : tie.Need-enum-told
 enum-told c = search needs
 
--- src/granularity.rt:144:33
 add-result : tie.Need-add-result
 add-result c = search needs
 
--- src/granularity.rt:145:58
 enum-told-2 : tie.Need-enum-told-2
 enum-told-2 c = search needs
 
--- src/granularity.rt:145:35
 add-result-2 : tie.Need-add-result-2
 add-result-2 c = search needs
 
--- src/granularity.rt:146:35
 enum-told-3 : tie.Need-enum-told-3
 enum-told-3 c = search needs
 
--- src/granularity.rt:140:5
 returns : tie.Need-returns
 returns c = rw (c .enum-told .given .1)
 
--- src/granularity.rt:140:5
 returns-2 : tie.Need-returns-2
 returns-2 c = rw (c .enum-told2 .given .1)
 
--- src/granularity.rt:140:5
 returns-3 : tie.Need-returns-3
 returns-3 c = search needs
 

@@ -5,30 +5,21 @@ use Rattle.objects.specs.Header.{sizableOf}
 use borrow.Author.Needs.{needs}
 use Rattle.objects.proofs.header.ObjectHeader.may_set_size.Statement.{statement}
 use Rattle.objects.proofs.header.ObjectHeader.may_set_size.Tie as tie
-use Rattle.objects.proofs.header.ObjectHeader.may_set_size.Reads as reads
-use Rattle.objects.proofs.header.ObjectHeader.may_set_size.Lts as lts
-use Rattle.medium.proofs.geometry.check.Reads as check-reads
-use Rattle.objects.proofs.header.unset.Reads as unset-reads
 
--- src/header.rt:221:13
 check-requires : tie.Need-check-requires
 check-requires c κs = search needs
 
--- src/header.rt:223:13
 returns : tie.Need-returns
 unfolding sizableOf
 returns c = admit-stop _ _ _ _ (c .before .check .ensures) (c .if1 .taken)
 
--- src/header.rt:225:25
 unset-requires : tie.Need-unset-requires
 unset-requires c κs = search needs
 
--- src/header.rt:226:13
 returns-2 : tie.Need-returns-2
 unfolding sizableOf
 returns-2 c = sym (admit-pass _ _ _ _ (c .before .before .before .before .check .ensures) (c .before .before .before .if1 .left) ∙ rw (← c .before .before .unset .ensures, ne-eqb _ _ (c .if2 .taken)))
 
--- src/header.rt:218:5
 returns-3 : tie.Need-returns-3
 unfolding sizableOf
 returns-3 c = sym (admit-pass _ _ _ _ (c .before .before .before .before .check .ensures) (c .before .before .before .if1 .left) ∙ rw (← c .before .before .unset .ensures, eq-eqb _ _ (c .if2 .left)))

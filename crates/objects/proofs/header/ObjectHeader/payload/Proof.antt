@@ -4,24 +4,17 @@ use Rattle.objects.specs.Header.{payloadOf}
 use borrow.Author.Needs.{needs}
 use Rattle.objects.proofs.header.ObjectHeader.payload.Statement.{statement}
 use Rattle.objects.proofs.header.ObjectHeader.payload.Tie as tie
-use Rattle.objects.proofs.header.ObjectHeader.payload.Reads as reads
-use Rattle.objects.proofs.header.ObjectHeader.payload.Lts as lts
-use Rattle.objects.proofs.header.unset.Reads as unset-reads
 
--- src/header.rt:118:25
 unset-requires : tie.Need-unset-requires
 unset-requires c κs = search needs
 
--- src/header.rt:119:13
 returns : tie.Need-returns
 unfolding payloadOf
 returns c = (rw (← c .before .before .unset .ensures, eq-eqb _ _ (c .if1 .taken)), omega arith)
 
--- src/header.rt:121:9
 cast-result : tie.Need-cast-result
 cast-result c = search needs
 
--- src/header.rt:114:5
 returns-2 : tie.Need-returns-2
 unfolding payloadOf
 returns-2 c = (rw (← c .before .before .before .unset .ensures, ne-eqb _ _ (c .before .if1 .left)), search needs)

@@ -3,20 +3,14 @@ use Rattle.objects.specs.Header.{payloadSizeOf}
 use borrow.Author.Needs.{needs}
 use Rattle.objects.proofs.header.ObjectHeader.payload_size.Statement.{statement}
 use Rattle.objects.proofs.header.ObjectHeader.payload_size.Tie as tie
-use Rattle.objects.proofs.header.ObjectHeader.payload_size.Reads as reads
-use Rattle.objects.proofs.header.ObjectHeader.payload_size.Lts as lts
-use Rattle.objects.proofs.header.unset.Reads as unset-reads
 
--- src/header.rt:107:25
 unset-requires : tie.Need-unset-requires
 unset-requires c κs = search needs
 
--- src/header.rt:108:13
 returns : tie.Need-returns
 unfolding payloadSizeOf
 returns c = rw (← c .before .before .unset .ensures, eq-eqb _ _ (c .if1 .taken))
 
--- src/header.rt:104:5
 returns-2 : tie.Need-returns-2
 unfolding payloadSizeOf
 returns-2 c = rw (← c .before .before .unset .ensures, ne-eqb _ _ (c .if1 .left))

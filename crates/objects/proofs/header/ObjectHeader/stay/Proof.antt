@@ -4,40 +4,28 @@ use Rattle.objects.specs.Header.{stayOf}
 use borrow.Author.Needs.{needs}
 use Rattle.objects.proofs.header.ObjectHeader.stay.Statement.{statement}
 use Rattle.objects.proofs.header.ObjectHeader.stay.Tie as tie
-use Rattle.objects.proofs.header.ObjectHeader.stay.Reads as reads
-use Rattle.objects.proofs.header.ObjectHeader.stay.Lts as lts
-use Rattle.medium.proofs.geometry.check.Reads as check-reads
-use Rattle.objects.proofs.state.CompositeObjectState.rank.Reads as state-CompositeObjectState-rank-reads
-use Rattle.objects.proofs.state.ObjectState.rank.Reads as state-ObjectState-rank-reads
 
--- src/header.rt:178:13
 check-requires : tie.Need-check-requires
 check-requires c κs = search needs
 
--- src/header.rt:180:13
 returns : tie.Need-returns
 unfolding stayOf
 returns c = rw (← admit-stop _ _ _ _ (c .before .check .ensures) (c .if1 .taken), ne-eqb _ _ (c .if1 .taken))
 
--- src/header.rt:182:12
 rank-requires : tie.Need-rank-requires
 rank-requires c κs = search needs
 
--- src/header.rt:183:13
 returns-2 : tie.Need-returns-2
 unfolding stayOf
 returns-2 c = rw (admit-pass _ _ _ _ (c .before .before .before .check .ensures) (c .before .before .if1 .left), ← c .before .rank .ensures, eq-eqb _ _ (c .if2 .taken))
 
--- src/header.rt:186:12
 rank-requires-2 : tie.Need-rank-requires-2
 rank-requires-2 c κs = search needs
 
--- src/header.rt:187:13
 returns-3 : tie.Need-returns-3
 unfolding stayOf
 returns-3 c = rw (admit-pass _ _ _ _ (c .before .before .before .before .before .check .ensures) (c .before .before .before .before .if1 .left), ← c .before .before .before .rank .ensures, ne-eqb _ _ (c .before .before .if2 .left), ← c .before .rank2 .ensures, ne-eqb _ _ (c .if3 .taken))
 
--- src/header.rt:175:5
 returns-4 : tie.Need-returns-4
 unfolding stayOf
 returns-4 c = rw (admit-pass _ _ _ _ (c .before .before .before .before .before .check .ensures) (c .before .before .before .before .if1 .left), ← c .before .before .before .rank .ensures, ne-eqb _ _ (c .before .before .if2 .left), ← c .before .rank2 .ensures, eq-eqb _ _ (c .if3 .left))

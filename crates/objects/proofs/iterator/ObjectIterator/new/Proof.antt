@@ -3,19 +3,13 @@ use Rattle.objects.proofs.Places.{places}
 use borrow.Author.Needs.{needs}
 use Rattle.objects.proofs.iterator.ObjectIterator.new.Statement.{statement}
 use Rattle.objects.proofs.iterator.ObjectIterator.new.Tie as tie
-use Rattle.objects.proofs.iterator.ObjectIterator.new.Reads as reads
-use Rattle.objects.proofs.iterator.ObjectIterator.new.Lts as lts
-use Rattle.medium.proofs.granularity.Granularity.block_header.Reads as block-header-reads
 
--- src/iterator.rt:32:25
 block-header-requires : tie.Need-block-header-requires
 block-header-requires c κs = search needs
 
--- src/iterator.rt:32:25
 cast-t5 : tie.Need-cast-t5
 cast-t5 c = let p = places (c .before .args .g .granularity) in omega (arith, c .block-header .ensures)
 
--- src/iterator.rt:25:5
 returns : tie.Need-returns
 returns c = rw (c .block-header .ensures)
 

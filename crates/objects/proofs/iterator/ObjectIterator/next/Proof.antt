@@ -8,65 +8,45 @@ use Rattle.objects.proofs.Reading.{span-small}
 use borrow.Author.Needs.{needs}
 use Rattle.objects.proofs.iterator.ObjectIterator.next.Statement.{statement}
 use Rattle.objects.proofs.iterator.ObjectIterator.next.Tie as tie
-use Rattle.objects.proofs.iterator.ObjectIterator.next.Reads as reads
-use Rattle.objects.proofs.iterator.ObjectIterator.next.Lts as lts
-use Rattle.medium.proofs.geometry.check.Reads as check-reads
-use Rattle.medium.proofs.granularity.Granularity.object_header.Reads as object-header-reads
-use Rattle.objects.proofs.info.read.Reads as read-reads
-use Rattle.objects.proofs.info.span.Reads as span-reads
-use Rattle.objects.proofs.iterator.ObjectIterator.past.Reads as past-reads
 
--- src/iterator.rt:55:13
 check-requires : tie.Need-check-requires
 check-requires c κs = search needs
 
--- src/iterator.rt:57:13
 returns : tie.Need-returns
 unfolding nextOf
 returns c = rw (or-stop _ _ (c .before .check .ensures) (c .if1 .taken))
 
--- src/iterator.rt:61:13
 cast-if2 : tie.Need-cast-if2
 cast-if2 c = search needs
 
--- src/iterator.rt:61:34
 cast-if2-2 : tie.Need-cast-if2-2
 cast-if2-2 c = search needs
 
--- src/iterator.rt:61:56
 object-header-requires : tie.Need-object-header-requires
 object-header-requires c κs = search needs
 
--- src/iterator.rt:61:33
 add-if2 : tie.Need-add-if2
 add-if2 c = let h = header-small (c .before .before .before .before .before .before .before .args .g .granularity) (c .before .before .before .before .before .before .before .args .g .s) in omega (arith, c .object-header .ensures)
 
--- src/iterator.rt:62:13
 returns-2 : tie.Need-returns-2
 unfolding nextOf
 returns-2 c = rw (or-on _ _ (c .before .before .before .before .before .before .check .ensures) (c .before .before .before .before .before .if1 .left), ← c .before .object-header .ensures, le-leb _ _ (c .if2 .taken))
 
--- src/iterator.rt:64:13
 read-requires : tie.Need-read-requires
 read-requires c κs = search needs
 
--- src/iterator.rt:66:31
 enum-known-r : tie.Need-enum-known-r
 enum-known-r c = search needs
 
--- src/iterator.rt:67:31
 enum-told : tie.Need-enum-told
 enum-told c = search needs
 
--- src/iterator.rt:68:29
 enum-known-r-2 : tie.Need-enum-known-r-2
 enum-known-r-2 c = search needs
 
--- src/iterator.rt:68:61
 span-requires : tie.Need-span-requires
 span-requires c κs = rw (c .before .r2 .given .1) at (c .before .before .before .read .ensures .1)
 
--- src/iterator.rt:68:51
 past-requires : tie.Need-past-requires
 past-requires c κs =
     let v = fine-of-check _ _ _ (c .before .before .before .before .before .before .before .before .before .before .before .check .ensures) (c .before .before .before .before .before .before .before .before .before .before .if1 .left) in
@@ -74,17 +54,14 @@ past-requires c κs =
     let q = rw (c .before .before .r2 .given .1) at (c .before .before .before .before .read .ensures .1) in
     omega (arith, v .sound .small, c .before .before .before .before .before .if2 .left, c .span .ensures, p, q)
 
--- src/iterator.rt:52:5
 returns-3 : tie.Need-returns-3
 unfolding nextOf
 returns-3 c = rw (or-on _ _ (c .before .before .before .before .before .before .before .before .before .before .check .ensures) (c .before .before .before .before .before .before .before .before .before .if1 .left), ← c .before .before .before .before .before .object-header .ensures, lt-leb _ _ (c .before .before .before .before .if2 .left), ← c .before .before .before .read .ensures .0, c .before .r .given .1)
 
--- src/iterator.rt:52:5
 returns-4 : tie.Need-returns-4
 unfolding nextOf
 returns-4 c = rw (or-on _ _ (c .before .before .before .before .before .before .before .before .before .check .ensures) (c .before .before .before .before .before .before .before .before .if1 .left), ← c .before .before .before .before .object-header .ensures, lt-leb _ _ (c .before .before .before .if2 .left), ← c .before .before .read .ensures .0, c .enum-told .given .1)
 
--- src/iterator.rt:52:5
 returns-5 : tie.Need-returns-5
 unfolding nextOf
 returns-5 c = rw (c .past .ensures, c .before .span .ensures, or-on _ _ (c .before .before .before .before .before .before .before .before .before .before .before .before .check .ensures) (c .before .before .before .before .before .before .before .before .before .before .before .if1 .left), ← c .before .before .before .before .before .before .before .object-header .ensures, lt-leb _ _ (c .before .before .before .before .before .before .if2 .left), ← c .before .before .before .before .before .read .ensures .0, c .before .before .before .r2 .given .1)

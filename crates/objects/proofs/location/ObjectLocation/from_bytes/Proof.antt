@@ -11,70 +11,51 @@ use Rattle.objects.proofs.Numbers.{rest-all}
 use borrow.Author.Needs.{needs}
 use Rattle.objects.proofs.location.ObjectLocation.from_bytes.Statement.{statement}
 use Rattle.objects.proofs.location.ObjectLocation.from_bytes.Tie as tie
-use Rattle.objects.proofs.location.ObjectLocation.from_bytes.Reads as reads
-use Rattle.objects.proofs.location.ObjectLocation.from_bytes.Lts as lts
-use Rattle.medium.proofs.geometry.fit.Reads as fit-reads
-use Rattle.objects.proofs.location.number.Reads as number-reads
 
--- src/location.rt:86:13
 fit-requires : tie.Need-fit-requires
 fit-requires c κs = search needs
 
--- src/location.rt:88:13
 returns : tie.Need-returns
 unfolding fromBytes
 returns c = sym (gate-stop _ _ _ (c .before .fit .ensures) (c .if1 .taken))
 
--- src/location.rt:90:17
 cast-c : tie.Need-cast-c
 cast-c c = search needs
 
--- src/location.rt:91:17
 cast-s : tie.Need-cast-s
 cast-s c = search needs
 
--- src/location.rt:92:25
 add-if2 : tie.Need-add-if2
 add-if2 c = search needs
 
--- src/location.rt:93:13
 returns-2 : tie.Need-returns-2
 unfolding fromBytes
 returns-2 c = sym (gate-on _ _ _ (c .before .before .before .before .fit .ensures) (c .before .before .before .if1 .left) ∙ rw (ne-eqb _ _ (c .if2 .taken)))
 
--- src/location.rt:95:28
 slice-aggregate-number : tie.Need-slice-aggregate-number
 slice-aggregate-number c = let h : c .before .before .before .before .before .before .before .args .g .c ≤ length (c .before .before .before .before .before .before .before .args .raw .now) = omega (arith, c .before .if2 .left) in sym (length-take-le _ _ h)
 
--- src/location.rt:95:13
 number-requires : tie.Need-number-requires
 number-requires c κs = let v = fit-sound _ _ (c .before .before .before .before .before .fit .ensures) (c .before .before .before .before .if1 .left) in simp length-take (omega (arith, v .c-most))
 
--- src/location.rt:96:29
 sub-number : tie.Need-sub-number
 sub-number c = search needs
 
--- src/location.rt:96:29
 part-number-start : tie.Need-part-number-start
 part-number-start c = search needs
 
--- src/location.rt:96:29
 part-number-end : tie.Need-part-number-end
 part-number-end c = search needs
 
--- src/location.rt:96:13
 number-requires-2 : tie.Need-number-requires-2
 number-requires-2 c κs = let v = fit-sound _ _ (c .before .before .before .before .before .before .before .fit .ensures) (c .before .before .before .before .before .before .if1 .left) in simp (length-take, length-drop) (omega (arith, v .s-most, c .before .before .before .if2 .left))
 
--- src/location.rt:98:20
 cast-t16 : tie.Need-cast-t16
 cast-t16 c = search needs
 
--- src/location.rt:99:21
 cast-t17 : tie.Need-cast-t17
 cast-t17 c = search needs
 
--- src/location.rt:83:5
 returns-3 : tie.Need-returns-3
 unfolding fromBytes
 returns-3 c = rw (c .before .before .number .ensures .0, c .number2 .ensures .0, rest-all) (sym (gate-on _ _ _ (c .before .before .before .before .before .before .before .before .fit .ensures) (c .before .before .before .before .before .before .before .if1 .left) ∙ rw (eq-eqb _ _ (c .before .before .before .before .if2 .left))))

@@ -11,70 +11,51 @@ use Rattle.objects.proofs.Answers.{gate-on, gate-stop}
 use borrow.Author.Needs.{needs}
 use Rattle.objects.proofs.location.ObjectLocation.into_bytes.Statement.{statement}
 use Rattle.objects.proofs.location.ObjectLocation.into_bytes.Tie as tie
-use Rattle.objects.proofs.location.ObjectLocation.into_bytes.Reads as reads
-use Rattle.objects.proofs.location.ObjectLocation.into_bytes.Lts as lts
-use Rattle.medium.proofs.geometry.fit.Reads as fit-reads
-use Rattle.objects.proofs.location.put_number.Reads as put-number-reads
 
--- src/location.rt:69:13
 fit-requires : tie.Need-fit-requires
 fit-requires c κs = search needs
 
--- src/location.rt:71:13
 returns : tie.Need-returns
 unfolding intoBytes
 returns c = (sym (gate-stop _ _ _ (c .before .fit .ensures) (c .if1 .taken)), refl)
 
--- src/location.rt:73:17
 cast-c : tie.Need-cast-c
 cast-c c = search needs
 
--- src/location.rt:74:17
 cast-s : tie.Need-cast-s
 cast-s c = search needs
 
--- src/location.rt:75:28
 add-if2 : tie.Need-add-if2
 add-if2 c = search needs
 
--- src/location.rt:76:13
 returns-2 : tie.Need-returns-2
 unfolding intoBytes
 returns-2 c = (sym (gate-on _ _ _ (c .before .before .before .before .fit .ensures) (c .before .before .before .if1 .left) ∙ rw (ne-eqb _ _ (c .if2 .taken))), refl)
 
--- src/location.rt:78:20
 slice-relend-prefix-put-number : tie.Need-slice-relend-prefix-put-number
 slice-relend-prefix-put-number c = search needs
 
--- src/location.rt:78:20
 slice-aggregate-put-number : tie.Need-slice-aggregate-put-number
 slice-aggregate-put-number c = let h : c .before .before .before .before .before .before .before .args .g .c ≤ length (c .before .before .before .before .before .before .before .args .buffer .now) = omega (arith, c .before .if2 .left) in sym (length-take-le _ _ h)
 
--- src/location.rt:78:9
 put-number-requires : tie.Need-put-number-requires
 put-number-requires c κs = search needs
 
--- src/location.rt:79:20
 sub-put-number : tie.Need-sub-put-number
 sub-put-number c = search needs
 
--- src/location.rt:79:20
 part-put-number-start : tie.Need-part-put-number-start
 part-put-number-start c = search needs
 
--- src/location.rt:79:20
 part-put-number-end : tie.Need-part-put-number-end
 part-put-number-end c = search needs
 
--- src/location.rt:79:9
 put-number-requires-2 : tie.Need-put-number-requires-2
 put-number-requires-2 c κs = search needs
 
--- src/location.rt:65:5
 same-length : tie.Need-same-length
 same-length c = search needs
 
--- src/location.rt:65:5
 returns-3 : tie.Need-returns-3
 unfolding intoBytes
 returns-3 c =

@@ -2,51 +2,37 @@ use borrow.Author.Tests.{lt-leb, le-leb}
 use borrow.Author.Needs.{needs}
 use Rattle.objects.proofs.metadata.MetadataObjectHeader.list_end.Statement.{statement}
 use Rattle.objects.proofs.metadata.MetadataObjectHeader.list_end.Tie as tie
-use Rattle.objects.proofs.metadata.MetadataObjectHeader.list_end.Reads as reads
-use Rattle.objects.proofs.metadata.MetadataObjectHeader.list_end.Lts as lts
-use Rattle.objects.proofs.header.ObjectHeader.payload_size.Reads as payload-size-reads
 
--- src/metadata.rt:151:13
 payload-size-requires : tie.Need-payload-size-requires
 payload-size-requires c κs = search needs
 
--- src/metadata.rt:152:30
 enum-known-p : tie.Need-enum-known-p
 enum-known-p c = search needs
 
--- src/metadata.rt:153:13
 enum-told : tie.Need-enum-told
 enum-told c = search needs
 
--- src/metadata.rt:153:13
 returns : tie.Need-returns
 returns c = rw (← c .before .before .payload-size .ensures, c .enum-told .given .1)
 
--- src/metadata.rt:155:26
 cast-least : tie.Need-cast-least
 cast-least c = search needs
 
--- src/metadata.rt:155:21
 add-least : tie.Need-add-least
 add-least c = search needs
 
--- src/metadata.rt:155:43
 cast-least-2 : tie.Need-cast-least-2
 cast-least-2 c = search needs
 
--- src/metadata.rt:155:21
 add-least-2 : tie.Need-add-least-2
 add-least-2 c = search needs
 
--- src/metadata.rt:156:20
 cast-size : tie.Need-cast-size
 cast-size c = search needs
 
--- src/metadata.rt:158:13
 returns-2 : tie.Need-returns-2
 returns-2 c = rw (← c .before .before .before .before .before .before .payload-size .ensures, c .before .before .before .before .p .given .1, lt-leb _ _ (c .if1 .taken))
 
--- src/metadata.rt:147:5
 returns-3 : tie.Need-returns-3
 returns-3 c = rw (← c .before .before .before .before .before .before .payload-size .ensures, c .before .before .before .before .p .given .1, le-leb _ _ (c .if1 .left))
 

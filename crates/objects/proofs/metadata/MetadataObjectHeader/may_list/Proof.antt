@@ -5,30 +5,21 @@ use Rattle.objects.proofs.Answers.{gate-on, gate-stop}
 use borrow.Author.Needs.{needs}
 use Rattle.objects.proofs.metadata.MetadataObjectHeader.may_list.Statement.{statement}
 use Rattle.objects.proofs.metadata.MetadataObjectHeader.may_list.Tie as tie
-use Rattle.objects.proofs.metadata.MetadataObjectHeader.may_list.Reads as reads
-use Rattle.objects.proofs.metadata.MetadataObjectHeader.may_list.Lts as lts
-use Rattle.medium.proofs.geometry.check.Reads as check-reads
-use Rattle.objects.proofs.metadata.MetadataObjectHeader.list_end.Reads as list-end-reads
 
--- src/metadata.rt:166:13
 check-requires : tie.Need-check-requires
 check-requires c κs = search needs
 
--- src/metadata.rt:168:13
 returns : tie.Need-returns
 unfolding listable
 returns c = sym (gate-stop _ _ _ (c .before .check .ensures) (c .if1 .taken))
 
--- src/metadata.rt:171:13
 returns-2 : tie.Need-returns-2
 unfolding listable
 returns-2 c = sym (gate-on _ _ _ (c .before .before .before .check .ensures) (c .before .before .if1 .left) ∙ rw (lt-leb _ _ (c .if2 .taken)))
 
--- src/metadata.rt:173:9
 list-end-requires : tie.Need-list-end-requires
 list-end-requires c κs = search needs
 
--- src/metadata.rt:163:5
 returns-3 : tie.Need-returns-3
 unfolding listable
 returns-3 c = c .list-end .ensures ∙ sym (gate-on _ _ _ (c .before .before .before .before .check .ensures) (c .before .before .before .if1 .left) ∙ rw (le-leb _ _ (c .before .if2 .left)))

@@ -3,27 +3,19 @@ use Rattle.objects.proofs.Places.{header-small}
 use borrow.Author.Needs.{needs}
 use Rattle.objects.proofs.reader.ObjectReader.at.Statement.{statement}
 use Rattle.objects.proofs.reader.ObjectReader.at.Tie as tie
-use Rattle.objects.proofs.reader.ObjectReader.at.Reads as reads
-use Rattle.objects.proofs.reader.ObjectReader.at.Lts as lts
-use Rattle.medium.proofs.granularity.Granularity.object_header.Reads as object-header-reads
 
--- src/reader.rt:151:10
 cast-result : tie.Need-cast-result
 cast-result c = search needs
 
--- src/reader.rt:151:35
 object-header-requires : tie.Need-object-header-requires
 object-header-requires c κs = search needs
 
--- src/reader.rt:151:9
 add-result : tie.Need-add-result
 add-result c = let h = header-small (c .before .before .before .before .args .g .granularity) (c .before .before .before .before .args .g .s) in omega (arith, c .object-header .ensures)
 
--- src/reader.rt:151:9
 add-result-2 : tie.Need-add-result-2
 add-result-2 c = let h = header-small (c .before .before .before .before .before .args .g .granularity) (c .before .before .before .before .before .args .g .s) in omega (arith, c .before .object-header .ensures, c .before .before .before .before .before .pre)
 
--- src/reader.rt:144:5
 returns : tie.Need-returns
 returns c = search needs
 

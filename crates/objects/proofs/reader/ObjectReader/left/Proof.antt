@@ -3,20 +3,14 @@ use Rattle.objects.specs.Reader.{remainingOf}
 use borrow.Author.Needs.{needs}
 use Rattle.objects.proofs.reader.ObjectReader.left.Statement.{statement}
 use Rattle.objects.proofs.reader.ObjectReader.left.Tie as tie
-use Rattle.objects.proofs.reader.ObjectReader.left.Reads as reads
-use Rattle.objects.proofs.reader.ObjectReader.left.Lts as lts
-use Rattle.objects.proofs.header.ObjectHeader.payload.Reads as payload-reads
 
--- src/reader.rt:86:13
 payload-requires : tie.Need-payload-requires
 payload-requires c κs = search needs
 
--- src/reader.rt:89:13
 returns : tie.Need-returns
 unfolding remainingOf
 returns c = rw (← c .before .payload .ensures .0, lt-leb _ _ (c .if1 .taken))
 
--- src/reader.rt:82:5
 returns-2 : tie.Need-returns-2
 unfolding remainingOf
 returns-2 c = rw (← c .before .payload .ensures .0, le-leb _ _ (c .if1 .left))

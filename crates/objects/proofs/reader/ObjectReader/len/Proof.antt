@@ -5,30 +5,21 @@ use Rattle.objects.proofs.Answers.{gate-on, gate-stop}
 use borrow.Author.Needs.{needs}
 use Rattle.objects.proofs.reader.ObjectReader.len.Statement.{statement}
 use Rattle.objects.proofs.reader.ObjectReader.len.Tie as tie
-use Rattle.objects.proofs.reader.ObjectReader.len.Reads as reads
-use Rattle.objects.proofs.reader.ObjectReader.len.Lts as lts
-use Rattle.medium.proofs.geometry.fit.Reads as fit-reads
-use Rattle.objects.proofs.header.ObjectHeader.payload.Reads as payload-reads
 
--- src/reader.rt:70:13
 fit-requires : tie.Need-fit-requires
 fit-requires c κs = search needs
 
--- src/reader.rt:72:13
 returns : tie.Need-returns
 unfolding readerLen
 returns c = sym (gate-stop _ _ _ (c .before .fit .ensures) (c .if1 .taken))
 
--- src/reader.rt:75:13
 returns-2 : tie.Need-returns-2
 unfolding readerLen
 returns-2 c = sym (gate-on _ _ _ (c .before .before .before .fit .ensures) (c .before .before .if1 .left) ∙ rw (lt-leb _ _ (c .if2 .taken)))
 
--- src/reader.rt:78:24
 payload-requires : tie.Need-payload-requires
 payload-requires c κs = search needs
 
--- src/reader.rt:67:5
 returns-3 : tie.Need-returns-3
 unfolding readerLen
 returns-3 c = rw (c .payload .ensures .0) (sym (gate-on _ _ _ (c .before .before .before .before .before .fit .ensures) (c .before .before .before .before .if1 .left) ∙ rw (le-leb _ _ (c .before .before .if2 .left))))

@@ -5,30 +5,21 @@ use Rattle.objects.proofs.Answers.{gate-on, gate-stop}
 use borrow.Author.Needs.{needs}
 use Rattle.objects.proofs.reader.ObjectReader.may_read.Statement.{statement}
 use Rattle.objects.proofs.reader.ObjectReader.may_read.Tie as tie
-use Rattle.objects.proofs.reader.ObjectReader.may_read.Reads as reads
-use Rattle.objects.proofs.reader.ObjectReader.may_read.Lts as lts
-use Rattle.medium.proofs.geometry.check.Reads as check-reads
-use Rattle.objects.proofs.reader.ObjectReader.left.Reads as left-reads
 
--- src/reader.rt:133:13
 check-requires : tie.Need-check-requires
 check-requires c κs = search needs
 
--- src/reader.rt:135:13
 returns : tie.Need-returns
 unfolding leftOf
 returns c = sym (gate-stop _ _ _ (c .before .check .ensures) (c .if1 .taken))
 
--- src/reader.rt:138:13
 returns-2 : tie.Need-returns-2
 unfolding leftOf
 returns-2 c = sym (gate-on _ _ _ (c .before .before .before .check .ensures) (c .before .before .if1 .left) ∙ rw (lt-leb _ _ (c .if2 .taken)))
 
--- src/reader.rt:140:9
 left-requires : tie.Need-left-requires
 left-requires c κs = search needs
 
--- src/reader.rt:130:5
 returns-3 : tie.Need-returns-3
 unfolding leftOf
 returns-3 c = c .left .ensures ∙ sym (gate-on _ _ _ (c .before .before .before .before .check .ensures) (c .before .before .before .if1 .left) ∙ rw (le-leb _ _ (c .before .if2 .left)))

@@ -10,74 +10,51 @@ use Rattle.objects.proofs.Reading.{passed, left-small, payload-le}
 use borrow.Author.Needs.{needs}
 use Rattle.objects.proofs.reader.ObjectReader.read.Statement.{statement}
 use Rattle.objects.proofs.reader.ObjectReader.read.Tie as tie
-use Rattle.objects.proofs.reader.ObjectReader.read.Reads as reads
-use Rattle.objects.proofs.reader.ObjectReader.read.Lts as lts
-use Rattle.medium.proofs.fuse.Answered.number.Reads as fuse-Answered-number-reads
-use Rattle.medium.proofs.geometry.Counted.number.Reads as geometry-Counted-number-reads
-use Rattle.medium.proofs.read.Reads as read-reads
-use Rattle.objects.proofs.reader.ObjectReader.at.Reads as at-reads
-use Rattle.objects.proofs.reader.ObjectReader.may_read.Reads as may-read-reads
-use Rattle.objects.proofs.reader.ObjectReader.moved.Reads as moved-reads
-use Rattle.objects.proofs.reader.least.Reads as least-reads
 
--- src/reader.rt:159:13
 may-read-requires : tie.Need-may-read-requires
 may-read-requires c κs = search needs
 
--- src/reader.rt:160:28
 enum-known-l : tie.Need-enum-known-l
 enum-known-l c = search needs
 
--- src/reader.rt:161:37
 enum-told : tie.Need-enum-told
 enum-told c = search needs
 
--- src/reader.rt:161:37
 number-requires : tie.Need-number-requires
 number-requires c κs = search needs
 
--- src/reader.rt:161:13
 returns : tie.Need-returns
 unfolding readSome
 returns c = rw (c .number .ensures, ← c .before .before .before .may-read .ensures, c .before .enum-told .given .1) (refl, refl)
 
--- src/reader.rt:163:13
 least-requires : tie.Need-least-requires
 least-requires c κs = search needs
 
--- src/reader.rt:166:53
 at-requires : tie.Need-at-requires
 unfolding leftOf
 at-requires c κs = passed _ _ _ _ _ (sym (rw (c .before .before .before .before .l .given .1) at (c .before .before .before .before .before .before .may-read .ensures))) .0 .cursor-small
 
--- src/reader.rt:166:65
 slice-relend-prefix-read : tie.Need-slice-relend-prefix-read
 slice-relend-prefix-read c = search needs
 
--- src/reader.rt:166:65
 slice-aggregate-read : tie.Need-slice-aggregate-read
 slice-aggregate-read c = let h : c .before .before .before .before .least .result ≤ length (c .before .before .before .before .before .before .before .before .before .before .before .args .buffer .now) = omega (arith, c .before .before .before .before .least .ensures) in sym (length-take-le _ _ h)
 
--- src/reader.rt:166:13
 read-requires : tie.Need-read-requires
 read-requires c κs = search needs
 
 enum-told-2 : tie.Need-enum-told-2
 enum-told-2 c = search needs
 
--- src/reader.rt:168:37
 enum-told-3 : tie.Need-enum-told-3
 enum-told-3 c = search needs
 
--- src/reader.rt:168:37
 number-requires-2 : tie.Need-number-requires-2
 number-requires-2 c κs = search needs
 
--- src/reader.rt:168:13
 same-length : tie.Need-same-length
 same-length c = search needs
 
--- src/reader.rt:168:13
 returns-2 : tie.Need-returns-2
 returns-2 c =
     let h : c .before .before .before .before .before .before .before .before .before .before .least .result ≤ length (c .before .before .before .before .before .before .before .before .before .before .before .before .before .before .before .before .before .args .buffer .now) = omega (arith, c .before .before .before .before .before .before .before .before .before .before .least .ensures) in
@@ -86,7 +63,6 @@ returns-2 c =
     (sym (rw (c .before .before .before .before .before .before .before .at .ensures, length-take-le _ _ h, c .before .enum-told3 .given .1) at (c .before .before .before .before .before .read .ensures .0)))
     (rw (c .before .enum-told3 .given .1) at (c .before .before .before .before .before .read .ensures .1)))
 
--- src/reader.rt:170:26
 moved-requires : tie.Need-moved-requires
 unfolding leftOf
 moved-requires c κs =
@@ -95,11 +71,9 @@ moved-requires c κs =
     let q = payload-le (c .before .before .before .before .before .before .before .before .before .before .before .before .before .before .before .before .args .g .s) (c .before .before .before .before .before .before .before .before .before .before .before .before .before .before .before .before .args .self .object) in
     omega (arith, v .0 .cursor-small, p, q, c .before .before .before .before .before .before .before .before .before .least .ensures)
 
--- src/reader.rt:155:5
 same-length-2 : tie.Need-same-length-2
 same-length-2 c = search needs
 
--- src/reader.rt:155:5
 returns-3 : tie.Need-returns-3
 returns-3 c =
     let h : c .before .before .before .before .before .before .before .before .before .before .least .result ≤ length (c .before .before .before .before .before .before .before .before .before .before .before .before .before .before .before .before .before .args .buffer .now) = omega (arith, c .before .before .before .before .before .before .before .before .before .before .least .ensures) in

@@ -5,30 +5,21 @@ use Rattle.objects.proofs.Answers.{gate-on, gate-stop}
 use borrow.Author.Needs.{needs}
 use Rattle.objects.proofs.reader.ObjectReader.remaining.Statement.{statement}
 use Rattle.objects.proofs.reader.ObjectReader.remaining.Tie as tie
-use Rattle.objects.proofs.reader.ObjectReader.remaining.Reads as reads
-use Rattle.objects.proofs.reader.ObjectReader.remaining.Lts as lts
-use Rattle.medium.proofs.geometry.fit.Reads as fit-reads
-use Rattle.objects.proofs.reader.ObjectReader.left.Reads as left-reads
 
--- src/reader.rt:97:13
 fit-requires : tie.Need-fit-requires
 fit-requires c κs = search needs
 
--- src/reader.rt:99:13
 returns : tie.Need-returns
 unfolding remaining
 returns c = sym (gate-stop _ _ _ (c .before .fit .ensures) (c .if1 .taken))
 
--- src/reader.rt:102:13
 returns-2 : tie.Need-returns-2
 unfolding remaining
 returns-2 c = sym (gate-on _ _ _ (c .before .before .before .fit .ensures) (c .before .before .if1 .left) ∙ rw (lt-leb _ _ (c .if2 .taken)))
 
--- src/reader.rt:104:9
 left-requires : tie.Need-left-requires
 left-requires c κs = search needs
 
--- src/reader.rt:94:5
 returns-3 : tie.Need-returns-3
 unfolding remaining
 returns-3 c = c .left .ensures ∙ sym (gate-on _ _ _ (c .before .before .before .before .fit .ensures) (c .before .before .before .if1 .left) ∙ rw (le-leb _ _ (c .before .if2 .left)))

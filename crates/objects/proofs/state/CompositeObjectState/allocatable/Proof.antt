@@ -3,47 +3,34 @@ use Rattle.objects.specs.Header.{allocatableOf}
 use borrow.Author.Needs.{needs}
 use Rattle.objects.proofs.state.CompositeObjectState.allocatable.Statement.{statement}
 use Rattle.objects.proofs.state.CompositeObjectState.allocatable.Tie as tie
-use Rattle.objects.proofs.state.CompositeObjectState.allocatable.Reads as reads
-use Rattle.objects.proofs.state.CompositeObjectState.allocatable.Lts as lts
-use Rattle.objects.proofs.state.ObjectDataState.rank.Reads as rank-reads
-use Rattle.objects.proofs.types.ObjectType.byte.Reads as byte-reads
 
--- src/state.rt:214:45
 enum-known-self : tie.Need-enum-known-self
 enum-known-self c = search needs
 
--- src/state.rt:215:13
 enum-told : tie.Need-enum-told
 enum-told c = search needs
 
--- src/state.rt:215:13
 returns : tie.Need-returns
 unfolding allocatableOf
 returns c = rw (c .enum-told .given .1)
 
--- src/state.rt:217:16
 rank-requires : tie.Need-rank-requires
 rank-requires c κs = search needs
 
--- src/state.rt:218:13
 returns-2 : tie.Need-returns-2
 unfolding allocatableOf
 returns-2 c = rw (c .before .before .before .self .given .1, ← c .before .rank .ensures, lt-ltb _ _ (c .if1 .taken))
 
--- src/state.rt:220:12
 byte-requires : tie.Need-byte-requires
 byte-requires c κs = search needs
 
--- src/state.rt:220:24
 byte-requires-2 : tie.Need-byte-requires-2
 byte-requires-2 c κs = search needs
 
--- src/state.rt:221:13
 returns-3 : tie.Need-returns-3
 unfolding allocatableOf
 returns-3 c = rw (c .before .before .before .before .before .before .self .given .1, ← c .before .before .before .before .rank .ensures, le-ltb _ _ (c .before .before .before .if1 .left), ← c .before .before .byte .ensures, ← c .before .byte2 .ensures, ne-eqb _ _ (c .if2 .taken))
 
--- src/state.rt:211:5
 returns-4 : tie.Need-returns-4
 unfolding allocatableOf
 returns-4 c = rw (c .before .before .before .before .before .before .self .given .1, ← c .before .before .before .before .rank .ensures, le-ltb _ _ (c .before .before .before .if1 .left), ← c .before .before .byte .ensures, ← c .before .byte2 .ensures, eq-eqb _ _ (c .if2 .left))

@@ -4,77 +4,55 @@ use Rattle.objects.proofs.Places.{places}
 use borrow.Author.Needs.{needs}
 use Rattle.objects.proofs.state.CompositeObjectState.parse.Statement.{statement}
 use Rattle.objects.proofs.state.CompositeObjectState.parse.Tie as tie
-use Rattle.objects.proofs.state.CompositeObjectState.parse.Reads as reads
-use Rattle.objects.proofs.state.CompositeObjectState.parse.Lts as lts
-use Rattle.medium.proofs.granularity.Granularity.delete_at.Reads as delete-at-reads
-use Rattle.medium.proofs.granularity.Granularity.finish_at.Reads as finish-at-reads
-use Rattle.objects.proofs.state.ObjectDataState.of_marks.Reads as of-marks-reads
-use Rattle.objects.proofs.types.ObjectType.parse.Reads as parse-reads
 
--- src/state.rt:172:38
 shared-slice-read-parse : tie.Need-shared-slice-read-parse
 shared-slice-read-parse c = omega (arith, places (c .before .before .args .k), c .before .before .pre)
 
--- src/state.rt:172:13
 parse-requires : tie.Need-parse-requires
 parse-requires c κs = search needs
 
--- src/state.rt:174:46
 enum-told : tie.Need-enum-told
 enum-told c = search needs
 
--- src/state.rt:175:31
 enum-known-kind : tie.Need-enum-known-kind
 enum-known-kind c = search needs
 
--- src/state.rt:176:27
 enum-known-kind-2 : tie.Need-enum-known-kind-2
 enum-known-kind-2 c = search needs
 
--- src/state.rt:177:21
 finish-at-requires : tie.Need-finish-at-requires
 finish-at-requires c κs = search needs
 
--- src/state.rt:178:21
 delete-at-requires : tie.Need-delete-at-requires
 delete-at-requires c κs = search needs
 
--- src/state.rt:179:54
 shared-slice-read-of-marks : tie.Need-shared-slice-read-of-marks
 shared-slice-read-of-marks c = rw (c .before .before .finish-at .ensures) (omega (arith, places (c .before .before .before .before .before .before .before .before .before .args .k), c .before .before .before .before .before .before .before .before .before .pre))
 
--- src/state.rt:179:62
 shared-slice-read-of-marks-2 : tie.Need-shared-slice-read-of-marks-2
 shared-slice-read-of-marks-2 c = rw (c .before .before .delete-at .ensures) (omega (arith, places (c .before .before .before .before .before .before .before .before .before .before .args .k), c .before .before .before .before .before .before .before .before .before .before .pre))
 
--- src/state.rt:179:21
 of-marks-requires : tie.Need-of-marks-requires
 of-marks-requires c κs = search needs
 
--- src/state.rt:181:40
 enum-known-m : tie.Need-enum-known-m
 enum-known-m c = search needs
 
--- src/state.rt:182:44
 enum-known-m-2 : tie.Need-enum-known-m-2
 enum-known-m-2 c = search needs
 
--- src/state.rt:168:5
 returns : tie.Need-returns
 unfolding stateIn
 returns c = rw (← c .before .before .parse .ensures, c .enum-told .given .1)
 
--- src/state.rt:168:5
 returns-2 : tie.Need-returns-2
 unfolding stateIn
 returns-2 c = rw (← c .before .before .before .parse .ensures, c .before .kind .given .1)
 
--- src/state.rt:168:5
 returns-3 : tie.Need-returns-3
 unfolding stateIn
 returns-3 c = rw (← c .before .before .before .before .before .before .before .before .before .before .before .parse .ensures, c .before .before .before .before .before .before .before .before .before .kind2 .given .1, ← rw (c .before .before .before .before .before .before .before .finish-at .ensures, c .before .before .before .before .before .before .delete-at .ensures) at (c .before .before .before .of-marks .ensures), c .before .m .given .1)
 
--- src/state.rt:168:5
 returns-4 : tie.Need-returns-4
 unfolding stateIn
 returns-4 c = rw (← c .before .before .before .before .before .before .before .before .before .before .before .parse .ensures, c .before .before .before .before .before .before .before .before .before .kind2 .given .1, ← rw (c .before .before .before .before .before .before .before .finish-at .ensures, c .before .before .before .before .before .before .delete-at .ensures) at (c .before .before .before .of-marks .ensures), c .before .m2 .given .1)

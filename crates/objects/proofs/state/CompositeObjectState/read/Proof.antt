@@ -6,28 +6,19 @@ use Rattle.objects.proofs.Places.{places}
 use borrow.Author.Needs.{needs}
 use Rattle.objects.proofs.state.CompositeObjectState.read.Statement.{statement}
 use Rattle.objects.proofs.state.CompositeObjectState.read.Tie as tie
-use Rattle.objects.proofs.state.CompositeObjectState.read.Reads as reads
-use Rattle.objects.proofs.state.CompositeObjectState.read.Lts as lts
-use Rattle.medium.proofs.granularity.Granularity.size_at.Reads as size-at-reads
-use Rattle.objects.proofs.state.CompositeObjectState.read_into.Reads as read-into-reads
 
--- src/state.rt:205:13
 size-at-requires : tie.Need-size-at-requires
 size-at-requires c κs = search needs
 
--- src/state.rt:207:55
 array-borrow-prefix-buffer : tie.Need-array-borrow-prefix-buffer
 array-borrow-prefix-buffer c = rw (c .size-at .ensures) (omega (arith, places (c .before .before .args .g .granularity)))
 
--- src/state.rt:207:55
 slice-aggregate-read-into : tie.Need-slice-aggregate-read-into
 slice-aggregate-read-into c = let h : c .before .size-at .result ≤ 12 = rw (c .before .size-at .ensures) (omega (arith, places (c .before .before .before .args .g .granularity))) in sym (length-take-le _ _ h)
 
--- src/state.rt:207:9
 read-into-requires : tie.Need-read-into-requires
 read-into-requires c κs = let h : c .before .size-at .result ≤ 12 = rw (c .before .size-at .ensures) (omega (arith, places (c .before .before .before .args .g .granularity))) in length-take-le _ _ h ∙ c .before .size-at .ensures
 
--- src/state.rt:201:5
 returns : tie.Need-returns
 returns c = search needs
 

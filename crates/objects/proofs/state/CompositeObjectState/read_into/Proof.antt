@@ -2,49 +2,35 @@ use Rattle.objects.specs.Header.{stateAt}
 use borrow.Author.Needs.{needs}
 use Rattle.objects.proofs.state.CompositeObjectState.read_into.Statement.{statement}
 use Rattle.objects.proofs.state.CompositeObjectState.read_into.Tie as tie
-use Rattle.objects.proofs.state.CompositeObjectState.read_into.Reads as reads
-use Rattle.objects.proofs.state.CompositeObjectState.read_into.Lts as lts
-use Rattle.medium.proofs.fuse.Answered.number.Reads as number-reads
-use Rattle.medium.proofs.read.Reads as read-reads
-use Rattle.objects.proofs.state.CompositeObjectState.parse.Reads as parse-reads
 
--- src/state.rt:192:50
 cast-read : tie.Need-cast-read
 cast-read c = search needs
 
--- src/state.rt:192:13
 read-requires : tie.Need-read-requires
 read-requires c κs = search needs
 
 enum-told : tie.Need-enum-told
 enum-told c = search needs
 
--- src/state.rt:194:39
 enum-told-2 : tie.Need-enum-told-2
 enum-told-2 c = search needs
 
--- src/state.rt:194:39
 number-requires : tie.Need-number-requires
 number-requires c κs = search needs
 
--- src/state.rt:194:13
 same-length : tie.Need-same-length
 same-length c = search needs
 
--- src/state.rt:194:13
 returns : tie.Need-returns
 unfolding stateAt
 returns c = rw (c .number .ensures, ← c .before .before .before .before .before .before .before .before .before .before .pre, ← c .before .before .before .before .before .read .ensures .0, c .before .enum-told2 .given .1)
 
--- src/state.rt:197:9
 parse-requires : tie.Need-parse-requires
 parse-requires c κs = search needs
 
--- src/state.rt:188:5
 same-length-2 : tie.Need-same-length-2
 same-length-2 c = search needs
 
--- src/state.rt:188:5
 returns-2 : tie.Need-returns-2
 unfolding stateAt
 returns-2 c = rw (← c .before .before .before .before .before .before .before .before .before .before .before .pre, ← c .before .before .before .before .before .before .read .ensures .0, c .before .before .enum-told .given .1) (c .parse .ensures)

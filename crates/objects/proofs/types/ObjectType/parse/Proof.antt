@@ -2,30 +2,23 @@ use borrow.Author.Tests.{ne-eqb}
 use Rattle.objects.specs.Types.{typeOf}
 use Rattle.objects.proofs.types.ObjectType.parse.Statement.{statement}
 use Rattle.objects.proofs.types.ObjectType.parse.Tie as tie
-use Rattle.objects.proofs.types.ObjectType.parse.Reads as reads
-use Rattle.objects.proofs.types.ObjectType.parse.Lts as lts
 
--- src/types.rt:37:5
 returns : tie.Need-returns
 unfolding typeOf
 returns c = rw (c .match .keys1)
 
--- src/types.rt:37:5
 returns-2 : tie.Need-returns-2
 unfolding typeOf
 returns-2 c = rw (c .match .keys2)
 
--- src/types.rt:37:5
 returns-3 : tie.Need-returns-3
 unfolding typeOf
 returns-3 c = rw (c .match .keys3)
 
--- src/types.rt:37:5
 returns-4 : tie.Need-returns-4
 unfolding typeOf
 returns-4 c = rw (c .match .keys4)
 
--- src/types.rt:37:5
 returns-5 : tie.Need-returns-5
 unfolding typeOf
 returns-5 c = simp (ne-eqb _ _ (c .match .rest .0 .0 .0 .1), ne-eqb _ _ (c .match .rest .0 .0 .1), ne-eqb _ _ (c .match .rest .0 .1), ne-eqb _ _ (c .match .rest .1))

@@ -4,16 +4,6 @@ use Rattle.writer.specs.Writer.{allocate}
 use borrow.Author.Needs.{needs}
 use Rattle.writer.proofs.writer.ObjectWriter.allocate.Statement.{statement}
 use Rattle.writer.proofs.writer.ObjectWriter.allocate.Tie as tie
-use Rattle.writer.proofs.writer.ObjectWriter.allocate.Reads as reads
-use Rattle.writer.proofs.writer.ObjectWriter.allocate.Lts as lts
-use Rattle.medium.proofs.fuse.Answered.number.Reads as fuse-Answered-number-reads
-use Rattle.medium.proofs.write.Reads as write-reads
-use Rattle.objects.proofs.state.CompositeObjectState.allocatable.Reads as allocatable-reads
-use Rattle.objects.proofs.state.CompositeObjectState.read.Reads as read-reads
-use Rattle.objects.proofs.state.StateRead.number.Reads as state-StateRead-number-reads
-use Rattle.objects.proofs.types.ObjectType.byte.Reads as byte-reads
-use Rattle.writer.proofs.writer.ObjectWriter.fresh.Reads as fresh-reads
-use Rattle.writer.proofs.writer.ObjectWriter.spent_by.Reads as spent-by-reads
 
 fresh-requires : tie.Need-fresh-requires
 fresh-requires c κs = search needs

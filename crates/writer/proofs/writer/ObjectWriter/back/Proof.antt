@@ -2,9 +2,6 @@ use borrow.Author.Tests.{eq-eqb, ne-eqb}
 use borrow.Author.Needs.{needs}
 use Rattle.writer.proofs.writer.ObjectWriter.back.Statement.{statement}
 use Rattle.writer.proofs.writer.ObjectWriter.back.Tie as tie
-use Rattle.writer.proofs.writer.ObjectWriter.back.Reads as reads
-use Rattle.writer.proofs.writer.ObjectWriter.back.Lts as lts
-use Rattle.writer.proofs.writer.ObjectWriter.spent_by.Reads as spent-by-reads
 
 enum-known-a : tie.Need-enum-known-a
 enum-known-a c = search needs

@@ -5,12 +5,6 @@ use Rattle.writer.specs.Writer.{close}
 use borrow.Author.Needs.{needs}
 use Rattle.writer.proofs.writer.ObjectWriter.close.Statement.{statement}
 use Rattle.writer.proofs.writer.ObjectWriter.close.Tie as tie
-use Rattle.writer.proofs.writer.ObjectWriter.close.Reads as reads
-use Rattle.writer.proofs.writer.ObjectWriter.close.Lts as lts
-use Rattle.objects.proofs.header.ObjectHeader.set_payload_size.Reads as set-payload-size-reads
-use Rattle.writer.proofs.writer.ObjectWriter.flush.Reads as flush-reads
-use Rattle.writer.proofs.writer.ObjectWriter.mark.Reads as mark-reads
-use Rattle.writer.proofs.writer.ObjectWriter.with.Reads as with-reads
 
 flush-requires : tie.Need-flush-requires
 flush-requires c κs = search needs

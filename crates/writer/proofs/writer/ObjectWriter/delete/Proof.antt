@@ -7,11 +7,6 @@ use Rattle.writer.proofs.Laws.{sound-is}
 use borrow.Author.Needs.{needs}
 use Rattle.writer.proofs.writer.ObjectWriter.delete.Statement.{statement}
 use Rattle.writer.proofs.writer.ObjectWriter.delete.Tie as tie
-use Rattle.writer.proofs.writer.ObjectWriter.delete.Reads as reads
-use Rattle.writer.proofs.writer.ObjectWriter.delete.Lts as lts
-use Rattle.writer.proofs.writer.ObjectWriter.back.Reads as back-reads
-use Rattle.writer.proofs.writer.ObjectWriter.deleting.Reads as deleting-reads
-use Rattle.writer.proofs.writer.ObjectWriter.sound.Reads as sound-reads
 
 sound-requires : tie.Need-sound-requires
 sound-requires c κs = search needs

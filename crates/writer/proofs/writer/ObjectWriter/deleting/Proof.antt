@@ -4,11 +4,6 @@ use Rattle.writer.proofs.Laws.{deleting-other}
 use borrow.Author.Needs.{needs}
 use Rattle.writer.proofs.writer.ObjectWriter.deleting.Statement.{statement}
 use Rattle.writer.proofs.writer.ObjectWriter.deleting.Tie as tie
-use Rattle.writer.proofs.writer.ObjectWriter.deleting.Reads as reads
-use Rattle.writer.proofs.writer.ObjectWriter.deleting.Lts as lts
-use Rattle.objects.proofs.state.CompositeObjectState.rank.Reads as rank-reads
-use Rattle.writer.proofs.writer.ObjectWriter.close.Reads as close-reads
-use Rattle.writer.proofs.writer.ObjectWriter.mark.Reads as mark-reads
 
 rank-requires : tie.Need-rank-requires
 rank-requires c κs = search needs

@@ -7,11 +7,6 @@ use Rattle.writer.proofs.Laws.{finish-is}
 use borrow.Author.Needs.{needs}
 use Rattle.writer.proofs.writer.ObjectWriter.finalize.Statement.{statement}
 use Rattle.writer.proofs.writer.ObjectWriter.finalize.Tie as tie
-use Rattle.writer.proofs.writer.ObjectWriter.finalize.Reads as reads
-use Rattle.writer.proofs.writer.ObjectWriter.finalize.Lts as lts
-use Rattle.writer.proofs.writer.ObjectWriter.back.Reads as back-reads
-use Rattle.writer.proofs.writer.ObjectWriter.close.Reads as close-reads
-use Rattle.writer.proofs.writer.ObjectWriter.may_finish.Reads as may-finish-reads
 
 may-finish-requires : tie.Need-may-finish-requires
 may-finish-requires c κs = search needs

@@ -9,11 +9,6 @@ use Rattle.writer.specs.Writer.{flush}
 use borrow.Author.Needs.{needs}
 use Rattle.writer.proofs.writer.ObjectWriter.flush.Statement.{statement}
 use Rattle.writer.proofs.writer.ObjectWriter.flush.Tie as tie
-use Rattle.writer.proofs.writer.ObjectWriter.flush.Reads as reads
-use Rattle.writer.proofs.writer.ObjectWriter.flush.Lts as lts
-use Rattle.medium.proofs.write.Reads as write-reads
-use Rattle.writer.proofs.writer.ObjectWriter.data_at.Reads as data-at-reads
-use Rattle.writer.proofs.writer.ObjectWriter.emptied.Reads as emptied-reads
 
 emptied-requires : tie.Need-emptied-requires
 emptied-requires c κs = search needs

@@ -1,9 +1,6 @@
 use borrow.Author.Needs.{needs}
 use Rattle.writer.proofs.writer.ObjectWriter.fresh.Statement.{statement}
 use Rattle.writer.proofs.writer.ObjectWriter.fresh.Tie as tie
-use Rattle.writer.proofs.writer.ObjectWriter.fresh.Reads as reads
-use Rattle.writer.proofs.writer.ObjectWriter.fresh.Lts as lts
-use Rattle.objects.proofs.header.unset.Reads as unset-reads
 
 unset-requires : tie.Need-unset-requires
 unset-requires c κs = search needs

@@ -2,9 +2,6 @@ use Rattle.writer.proofs.Laws.{tail-pasted}
 use borrow.Author.Needs.{needs}
 use Rattle.writer.proofs.writer.ObjectWriter.held_back.Statement.{statement}
 use Rattle.writer.proofs.writer.ObjectWriter.held_back.Tie as tie
-use Rattle.writer.proofs.writer.ObjectWriter.held_back.Reads as reads
-use Rattle.writer.proofs.writer.ObjectWriter.held_back.Lts as lts
-use Rattle.writer.proofs.writer.pasted.Reads as pasted-reads
 
 pasted-requires : tie.Need-pasted-requires
 pasted-requires c κs = search needs

@@ -3,10 +3,6 @@ use Rattle.medium.proofs.Runs.{on, stop, run-ask}
 use borrow.Author.Needs.{needs}
 use Rattle.writer.proofs.writer.ObjectWriter.mark.Statement.{statement}
 use Rattle.writer.proofs.writer.ObjectWriter.mark.Tie as tie
-use Rattle.writer.proofs.writer.ObjectWriter.mark.Reads as reads
-use Rattle.writer.proofs.writer.ObjectWriter.mark.Lts as lts
-use Rattle.objects.proofs.header.ObjectHeader.set_state.Reads as set-state-reads
-use Rattle.writer.proofs.writer.ObjectWriter.with.Reads as with-reads
 
 set-state-requires : tie.Need-set-state-requires
 set-state-requires c κs = search needs

@@ -6,11 +6,6 @@ use Rattle.writer.proofs.Laws.{sound-is}
 use borrow.Author.Needs.{needs}
 use Rattle.writer.proofs.writer.ObjectWriter.may_append.Statement.{statement}
 use Rattle.writer.proofs.writer.ObjectWriter.may_append.Tie as tie
-use Rattle.writer.proofs.writer.ObjectWriter.may_append.Reads as reads
-use Rattle.writer.proofs.writer.ObjectWriter.may_append.Lts as lts
-use Rattle.objects.proofs.state.CompositeObjectState.rank.Reads as rank-reads
-use Rattle.writer.proofs.writer.ObjectWriter.data_at.Reads as data-at-reads
-use Rattle.writer.proofs.writer.ObjectWriter.sound.Reads as sound-reads
 
 sound-requires : tie.Need-sound-requires
 sound-requires c κs = search needs

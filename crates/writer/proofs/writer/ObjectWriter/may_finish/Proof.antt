@@ -3,10 +3,6 @@ use Rattle.writer.specs.Writer.{finishable}
 use borrow.Author.Needs.{needs}
 use Rattle.writer.proofs.writer.ObjectWriter.may_finish.Statement.{statement}
 use Rattle.writer.proofs.writer.ObjectWriter.may_finish.Tie as tie
-use Rattle.writer.proofs.writer.ObjectWriter.may_finish.Reads as reads
-use Rattle.writer.proofs.writer.ObjectWriter.may_finish.Lts as lts
-use Rattle.objects.proofs.state.CompositeObjectState.rank.Reads as rank-reads
-use Rattle.writer.proofs.writer.ObjectWriter.sound.Reads as sound-reads
 
 sound-requires : tie.Need-sound-requires
 sound-requires c κs = search needs

@@ -6,9 +6,6 @@ use Rattle.writer.proofs.Laws.{usable-is, usable-on, usable-stop}
 use borrow.Author.Needs.{needs}
 use Rattle.writer.proofs.writer.ObjectWriter.payload_size.Statement.{statement}
 use Rattle.writer.proofs.writer.ObjectWriter.payload_size.Tie as tie
-use Rattle.writer.proofs.writer.ObjectWriter.payload_size.Reads as reads
-use Rattle.writer.proofs.writer.ObjectWriter.payload_size.Lts as lts
-use Rattle.writer.proofs.writer.ObjectWriter.usable.Reads as usable-reads
 
 usable-requires : tie.Need-usable-requires
 usable-requires c κs = search needs

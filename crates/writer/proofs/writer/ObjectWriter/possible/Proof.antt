@@ -3,9 +3,6 @@ use borrow.Author.Tests.{le-ltb, lt-ltb, le-leb, lt-leb}
 use borrow.Author.Needs.{needs}
 use Rattle.writer.proofs.writer.ObjectWriter.possible.Statement.{statement}
 use Rattle.writer.proofs.writer.ObjectWriter.possible.Tie as tie
-use Rattle.writer.proofs.writer.ObjectWriter.possible.Reads as reads
-use Rattle.writer.proofs.writer.ObjectWriter.possible.Lts as lts
-use Rattle.medium.proofs.granularity.Granularity.width.Reads as width-reads
 
 width-requires : tie.Need-width-requires
 width-requires c κs = search needs

@@ -4,10 +4,6 @@ use Rattle.writer.specs.Writer.{soundOf}
 use borrow.Author.Needs.{needs}
 use Rattle.writer.proofs.writer.ObjectWriter.sound.Statement.{statement}
 use Rattle.writer.proofs.writer.ObjectWriter.sound.Tie as tie
-use Rattle.writer.proofs.writer.ObjectWriter.sound.Reads as reads
-use Rattle.writer.proofs.writer.ObjectWriter.sound.Lts as lts
-use Rattle.medium.proofs.geometry.check.Reads as check-reads
-use Rattle.writer.proofs.writer.ObjectWriter.possible.Reads as possible-reads
 
 check-requires : tie.Need-check-requires
 check-requires c κs = search needs

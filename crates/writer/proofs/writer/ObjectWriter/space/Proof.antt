@@ -7,10 +7,6 @@ use Rattle.writer.proofs.Laws.{usable-is, usable-on, usable-stop}
 use borrow.Author.Needs.{needs}
 use Rattle.writer.proofs.writer.ObjectWriter.space.Statement.{statement}
 use Rattle.writer.proofs.writer.ObjectWriter.space.Tie as tie
-use Rattle.writer.proofs.writer.ObjectWriter.space.Reads as reads
-use Rattle.writer.proofs.writer.ObjectWriter.space.Lts as lts
-use Rattle.writer.proofs.writer.ObjectWriter.data_at.Reads as data-at-reads
-use Rattle.writer.proofs.writer.ObjectWriter.usable.Reads as usable-reads
 
 usable-requires : tie.Need-usable-requires
 usable-requires c κs = search needs

@@ -11,11 +11,6 @@ use Rattle.writer.proofs.Steps.{pending-none, pending-join}
 use borrow.Author.Needs.{needs}
 use Rattle.writer.proofs.writer.ObjectWriter.store.Statement.{statement}
 use Rattle.writer.proofs.writer.ObjectWriter.store.Tie as tie
-use Rattle.writer.proofs.writer.ObjectWriter.store.Reads as reads
-use Rattle.writer.proofs.writer.ObjectWriter.store.Lts as lts
-use Rattle.medium.proofs.granularity.Granularity.width.Reads as width-reads
-use Rattle.writer.proofs.writer.ObjectWriter.store_words.Reads as store-words-reads
-use Rattle.writer.proofs.writer.ObjectWriter.top_up.Reads as top-up-reads
 
 fits : (c : tie.Start) → c .args .self .held ≤ length (c .args .self .tail)
 fits c =

@@ -12,12 +12,6 @@ use Rattle.writer.proofs.Steps.{rest-few}
 use borrow.Author.Needs.{needs}
 use Rattle.writer.proofs.writer.ObjectWriter.store_words.Statement.{statement}
 use Rattle.writer.proofs.writer.ObjectWriter.store_words.Tie as tie
-use Rattle.writer.proofs.writer.ObjectWriter.store_words.Reads as reads
-use Rattle.writer.proofs.writer.ObjectWriter.store_words.Lts as lts
-use Rattle.medium.proofs.granularity.Granularity.width.Reads as width-reads
-use Rattle.medium.proofs.write.Reads as write-reads
-use Rattle.writer.proofs.writer.ObjectWriter.data_at.Reads as data-at-reads
-use Rattle.writer.proofs.writer.ObjectWriter.held_back.Reads as held-back-reads
 
 width-requires : tie.Need-width-requires
 width-requires c κs = search needs

@@ -9,10 +9,6 @@ use Rattle.writer.proofs.Steps.{pending-length}
 use borrow.Author.Needs.{needs}
 use Rattle.writer.proofs.writer.ObjectWriter.top_up.Statement.{statement}
 use Rattle.writer.proofs.writer.ObjectWriter.top_up.Tie as tie
-use Rattle.writer.proofs.writer.ObjectWriter.top_up.Reads as reads
-use Rattle.writer.proofs.writer.ObjectWriter.top_up.Lts as lts
-use Rattle.writer.proofs.writer.ObjectWriter.store_words.Reads as store-words-reads
-use Rattle.writer.proofs.writer.pasted.Reads as pasted-reads
 
 fits : (c : tie.Start) → c .args .self .held ≤ length (c .args .self .tail)
 fits c =

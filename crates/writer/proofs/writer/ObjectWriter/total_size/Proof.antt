@@ -7,10 +7,6 @@ use Rattle.writer.proofs.Laws.{usable-is, usable-on, usable-stop}
 use borrow.Author.Needs.{needs}
 use Rattle.writer.proofs.writer.ObjectWriter.total_size.Statement.{statement}
 use Rattle.writer.proofs.writer.ObjectWriter.total_size.Tie as tie
-use Rattle.writer.proofs.writer.ObjectWriter.total_size.Reads as reads
-use Rattle.writer.proofs.writer.ObjectWriter.total_size.Lts as lts
-use Rattle.medium.proofs.granularity.Granularity.object_header.Reads as object-header-reads
-use Rattle.writer.proofs.writer.ObjectWriter.usable.Reads as usable-reads
 
 usable-requires : tie.Need-usable-requires
 usable-requires c κs = search needs

@@ -2,10 +2,6 @@ use borrow.Author.Tests.{eq-eqb, ne-eqb}
 use borrow.Author.Needs.{needs}
 use Rattle.writer.proofs.writer.ObjectWriter.usable.Statement.{statement}
 use Rattle.writer.proofs.writer.ObjectWriter.usable.Tie as tie
-use Rattle.writer.proofs.writer.ObjectWriter.usable.Reads as reads
-use Rattle.writer.proofs.writer.ObjectWriter.usable.Lts as lts
-use Rattle.medium.proofs.geometry.fit.Reads as fit-reads
-use Rattle.writer.proofs.writer.ObjectWriter.possible.Reads as possible-reads
 
 fit-requires : tie.Need-fit-requires
 fit-requires c κs = search needs

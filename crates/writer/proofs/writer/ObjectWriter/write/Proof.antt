@@ -5,11 +5,6 @@ use Rattle.writer.proofs.Laws.{append-is}
 use borrow.Author.Needs.{needs}
 use Rattle.writer.proofs.writer.ObjectWriter.write.Statement.{statement}
 use Rattle.writer.proofs.writer.ObjectWriter.write.Tie as tie
-use Rattle.writer.proofs.writer.ObjectWriter.write.Reads as reads
-use Rattle.writer.proofs.writer.ObjectWriter.write.Lts as lts
-use Rattle.writer.proofs.writer.ObjectWriter.back.Reads as back-reads
-use Rattle.writer.proofs.writer.ObjectWriter.may_append.Reads as may-append-reads
-use Rattle.writer.proofs.writer.ObjectWriter.store.Reads as store-reads
 
 may-append-requires : tie.Need-may-append-requires
 may-append-requires c κs = search needs

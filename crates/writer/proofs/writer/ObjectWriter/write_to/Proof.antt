@@ -5,13 +5,6 @@ use Rattle.writer.specs.Writer.{writeTo}
 use borrow.Author.Needs.{needs}
 use Rattle.writer.proofs.writer.ObjectWriter.write_to.Statement.{statement}
 use Rattle.writer.proofs.writer.ObjectWriter.write_to.Tie as tie
-use Rattle.writer.proofs.writer.ObjectWriter.write_to.Reads as reads
-use Rattle.writer.proofs.writer.ObjectWriter.write_to.Lts as lts
-use Rattle.objects.proofs.info.total.Reads as total-reads
-use Rattle.writer.proofs.writer.ObjectWriter.allocate.Reads as allocate-reads
-use Rattle.writer.proofs.writer.ObjectWriter.finalize.Reads as finalize-reads
-use Rattle.writer.proofs.writer.ObjectWriter.write.Reads as write-reads
-use Rattle.writer.proofs.writer.Wrote.of.Reads as of-reads
 
 allocate-requires : tie.Need-allocate-requires
 allocate-requires c κs = search needs

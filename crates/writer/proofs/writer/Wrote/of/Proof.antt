@@ -1,8 +1,6 @@
 use borrow.Author.Needs.{needs}
 use Rattle.writer.proofs.writer.Wrote.of.Statement.{statement}
 use Rattle.writer.proofs.writer.Wrote.of.Tie as tie
-use Rattle.writer.proofs.writer.Wrote.of.Reads as reads
-use Rattle.writer.proofs.writer.Wrote.of.Lts as lts
 
 enum-known-a : tie.Need-enum-known-a
 enum-known-a c = search needs
