@@ -29,7 +29,7 @@ use Rattle.objects.specs.Info.{Info, found, infoIn, infoAt}
 use Rattle.objects.specs.Listing.{startOf, nextIn, atEnd, nextOf, Listing, visited, listBy, listFrom, listing}
 use Rattle.objects.proofs.Listing.{next-found, next-moves}
 use Rattle.collector.specs.Table.{Event, Both, gc}
-use Rattle.collector.specs.Finished.{Each}
+use Rattle.collector.specs.Finished.{Every}
 use Rattle.collector.proofs.Events.{Misses-event, bytes-stay, length-stays}
 
 -- the other image agrees with this one on the bytes of a block from one offset to another
@@ -45,7 +45,7 @@ agree-less g b from to low high img other v h k = record { long = v .long; same 
 
 -- events that miss those bytes keep it so
 pub agree-on : (g : Geometry) (b from to : ℕ) (img : List ℕ) (es : List Event) (s : Both) → Agree g b from to img (s .image)
-    → ((o : ℕ) → from ≤ o → o < to → Each (Misses-event (address g b o)) es) → Agree g b from to img (happen gc es s .image)
+    → ((o : ℕ) → from ≤ o → o < to → Every (Misses-event (address g b o)) es) → Agree g b from to img (happen gc es s .image)
 agree-on g b from to img es s v h =
     record {
       long = length-stays es s ∙ v .long;

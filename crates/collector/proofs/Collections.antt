@@ -19,7 +19,7 @@ use Rattle.collector.specs.declared.passes.PassKind.{PassKind}
 use Rattle.collector.specs.declared.passes.PassKind.the-variants as passes
 use Rattle.collector.specs.Table.{Event, Both, gc, recordAt, collectable}
 use Rattle.collector.specs.Passes.{deleteInvalidObjectsInBlock, stepOf, blockStep, sweep, pass, deleteInvalidObjects, eraseInvalidFinishedBlocks, eraseFullFinishedBlocks, collect}
-use Rattle.collector.specs.Finished.{Allocated, Every, Shows, Reached, Guarded, Each, Formats, RunSpares, RunKeepsBlock}
+use Rattle.collector.specs.Finished.{Allocated, Every, Shows, Reached, Guarded, Formats, RunSpares, RunKeepsBlock}
 use Rattle.collector.proofs.Events.{bind-each, Misses-event, Skips-event, byte-run, bytes-stay, length-stays}
 use Rattle.collector.proofs.Agreeing.{agree-self, agree-on, listing-agree}
 use Rattle.collector.proofs.Untouched.{Outside, finished-apart}
@@ -35,8 +35,8 @@ after g s = happen gc (deleteInvalidObjects g s .events) s
 
 module _ (g : Geometry) (s : Both) (b : ℕ) where
   -- the block is guarded behind the first pass, and so behind the second
-  collect-each : (P : Event → Type 0) → Each P (deleteInvalidObjects g s .events) → (deleteInvalidObjects g s .answer ≡ done tt → Guarded (listing g b (after g s .image)))
-      → ((k : PassKind) → Formats k → (t : Both) → Guarded (listing g b (t .image)) → Each P (pass (stepOf k) g t .events)) → Each P (collect g s .events)
+  collect-each : (P : Event → Type 0) → Every P (deleteInvalidObjects g s .events) → (deleteInvalidObjects g s .answer ≡ done tt → Guarded (listing g b (after g s .image)))
+      → ((k : PassKind) → Formats k → (t : Both) → Guarded (listing g b (t .image)) → Every P (pass (stepOf k) g t .events)) → Every P (collect g s .events)
   unfolding collect
   collect-each P first guard others =
       bind-each P (deleteInvalidObjects g) (λ _. eraseInvalidFinishedBlocks g >>= λ _. eraseFullFinishedBlocks g) s first
@@ -49,7 +49,7 @@ module _ (g : Geometry) (s : Both) (b : ℕ) where
           (agree-on g b 0 (g .size) (after g s .image) (eraseInvalidFinishedBlocks g (after g s) .events) (after g s) (agree-self g b 0 (g .size) (after g s .image))
           (λ o _ l. format-pass-misses passes.EraseInvalidFinishedBlocks tt g (after g s) b h o l))
 
-  collect-misses : (o : ℕ) → o < g .size → Outside g o (listing g b (s .image) .visits) → (deleteInvalidObjects g s .answer ≡ done tt → Guarded (listing g b (after g s .image))) → Each (Misses-event (address g b o)) (collect g s .events)
+  collect-misses : (o : ℕ) → o < g .size → Outside g o (listing g b (s .image) .visits) → (deleteInvalidObjects g s .answer ≡ done tt → Guarded (listing g b (after g s .image))) → Every (Misses-event (address g b o)) (collect g s .events)
   collect-misses o l w guard = collect-each (Misses-event (address g b o)) (first-pass-misses g s b o l w) guard (λ k p t h. format-pass-misses k p g t b h o l)
 
 -- a finished object that is reached guards the block

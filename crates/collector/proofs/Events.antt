@@ -12,7 +12,7 @@ use Rattle.medium.specs.Units.{FlashUnit}
 use Rattle.medium.specs.Operation.{flash, happen, cost, prefix, Answer, done, refused, Op, follow, _>>=_, ask, test, cutBy, run}
 use Rattle.medium.proofs.Bytes.{Misses, All, All-append, frame, length-apply}
 use Rattle.collector.specs.Table.{Event, unit, field, Both, happens, gc, Pass, units, onImage}
-use Rattle.collector.specs.Finished.{Each}
+use Rattle.collector.specs.Finished.{Every}
 
 -- ---- units of an operation on the image
 
@@ -37,15 +37,15 @@ module _ (P : FlashUnit → Type 0) where
 -- ---- events of a pass
 
 module _ (P : Event → Type 0) where
-  each-append : (es fs : List Event) → Each P es → Each P fs → Each P (es ++ fs)
+  each-append : (es fs : List Event) → Every P es → Every P fs → Every P (es ++ fs)
   each-append [] fs h k = k
   each-append (e ∷ es) fs h k = (h .0, each-append es fs (h .1) k)
 
-  each-units : (us : List FlashUnit) → All (λ u. P (unit u)) us → Each P (units us)
+  each-units : (us : List FlashUnit) → All (λ u. P (unit u)) us → Every P (units us)
   each-units [] h = tt
   each-units (u ∷ us) h = (h .0, each-units us (h .1))
 
-  each-prefix : (k : ℕ) (es : List Event) → Each P es → Each P (prefix gc k es)
+  each-prefix : (k : ℕ) (es : List Event) → Every P es → Every P (prefix gc k es)
   each-prefix zero [] h = tt
   each-prefix (suc k) [] h = tt
   each-prefix zero (unit u ∷ es) h = tt
@@ -53,26 +53,26 @@ module _ (P : Event → Type 0) where
   each-prefix (suc k) (unit u ∷ es) h = (h .0, each-prefix k es (h .1))
   each-prefix (suc k) (field i v ∷ es) h = (h .0, each-prefix (suc k) es (h .1))
 
-  pub image-each : {A : Type 0} (o : Op A) (s : Both) → All (λ u. P (unit u)) (o (s .image) .events) → Each P (onImage o s .events)
+  pub image-each : {A : Type 0} (o : Op A) (s : Both) → All (λ u. P (unit u)) (o (s .image) .events) → Every P (onImage o s .events)
   unfolding onImage
   image-each o s h = each-units (o (s .image) .events) h
 
-  pub bind-each : {A B : Type 0} (o : Pass A) (p : A → Pass B) (s : Both) → Each P (o s .events)
-      → ((x : A) → o s .answer ≡ done x → Each P (p x (happen gc (o s .events) s) .events)) → Each P ((o >>= p) s .events)
+  pub bind-each : {A B : Type 0} (o : Pass A) (p : A → Pass B) (s : Both) → Every P (o s .events)
+      → ((x : A) → o s .answer ≡ done x → Every P (p x (happen gc (o s .events) s) .events)) → Every P ((o >>= p) s .events)
   unfolding _>>=_
   bind-each {A} {B} o p s h k = go (o s .answer) refl
     where
-      go : (x : Answer A) → o s .answer ≡ x → Each P (follow {W = gc} (o s .events) x p s .events)
+      go : (x : Answer A) → o s .answer ≡ x → Every P (follow {W = gc} (o s .events) x p s .events)
       go (done x) e = each-append (o s .events) (p x (happen gc (o s .events) s) .events) h (k x e)
       go (refused n) e = h
 
   -- what is only asked stores nothing, and the state is the same
-  pub ask-each : {A : Type 0} (q : Both → Answer A) (s : Both) → Each P (ask {W = gc} q s .events)
+  pub ask-each : {A : Type 0} (q : Both → Answer A) (s : Both) → Every P (ask {W = gc} q s .events)
   unfolding ask
   ask-each q s = tt
 
-  pub asked-each : {A B : Type 0} (q : Both → Answer A) (p : A → Pass B) (s : Both) → ((x : A) → q s ≡ done x → Each P (p x s .events))
-      → Each P ((ask {W = gc} q >>= p) s .events)
+  pub asked-each : {A B : Type 0} (q : Both → Answer A) (p : A → Pass B) (s : Both) → ((x : A) → q s ≡ done x → Every P (p x s .events))
+      → Every P ((ask {W = gc} q >>= p) s .events)
   unfolding ask
   asked-each q p s k = bind-each (ask {W = gc} q) p s tt k
 
@@ -80,10 +80,10 @@ module _ (P : Event → Type 0) where
 
   pub record Happened (s t : Both) : Type 0 where
     pub some : List Event
-    pub each : Each P some
+    pub each : Every P some
     pub state : t ≡ happen gc some s
 
-  pub run-each : {A : Type 0} (f : Fuse) (o : Pass A) (s : Both) → Each P (o s .events) → Happened s (run f o s .state)
+  pub run-each : {A : Type 0} (f : Fuse) (o : Pass A) (s : Both) → Every P (o s .events) → Happened s (run f o s .state)
   unfolding run
   run-each Absent o s h = record { some = o s .events; each = h; state = refl }
   run-each {A} (Units k) o s h = go (leb (cost gc (o s .events)) k)
@@ -99,7 +99,7 @@ Misses-event a (unit u) = Misses a u
 Misses-event a (field i v) = Unit {0}
 
 -- a byte that they miss
-pub bytes-stay : (a d : ℕ) (es : List Event) (s : Both) → Each (Misses-event a) es → getD (happen gc es s .image) a d ≡ getD (s .image) a d
+pub bytes-stay : (a d : ℕ) (es : List Event) (s : Both) → Every (Misses-event a) es → getD (happen gc es s .image) a d ≡ getD (s .image) a d
 bytes-stay a d [] s h = refl
 bytes-stay a d (unit u ∷ es) s h = bytes-stay a d es (happens (unit u) s) (h .1) ∙ frame a d (u ∷ []) (s .image) (h .0, tt)
 bytes-stay a d (field i v ∷ es) s h = bytes-stay a d es (happens (field i v) s) (h .1)
@@ -115,7 +115,7 @@ Skips-event j (unit u) = Unit {0}
 Skips-event j (field i v) = j ≡ i → ⊥
 
 -- a field that they skip
-pub fields-stay : (j d : ℕ) (es : List Event) (s : Both) → Each (Skips-event j) es → getD (happen gc es s .table) j d ≡ getD (s .table) j d
+pub fields-stay : (j d : ℕ) (es : List Event) (s : Both) → Every (Skips-event j) es → getD (happen gc es s .table) j d ≡ getD (s .table) j d
 fields-stay j d [] s h = refl
 fields-stay j d (unit u ∷ es) s h = fields-stay j d es (happens (unit u) s) (h .1)
 fields-stay j d (field i v ∷ es) s h = fields-stay j d es (happens (field i v) s) (h .1) ∙ getD-set-other (s .table) i j v d (h .0)
@@ -123,15 +123,15 @@ fields-stay j d (field i v ∷ es) s h = fields-stay j d es (happens (field i v)
 -- ---- under a fuse, in every end
 
 module _ {A : Type 0} (f : Fuse) (o : Pass A) (s : Both) where
-  pub byte-run : (a d : ℕ) → Each (Misses-event a) (o s .events) → getD (run f o s .state .image) a d ≡ getD (s .image) a d
+  pub byte-run : (a d : ℕ) → Every (Misses-event a) (o s .events) → getD (run f o s .state .image) a d ≡ getD (s .image) a d
   byte-run a d h = let v = run-each (Misses-event a) f o s h in rw (v .state) (bytes-stay a d (v .some) s (v .each))
 
-  pub field-run : (j d : ℕ) → Each (Skips-event j) (o s .events) → getD (run f o s .state .table) j d ≡ getD (s .table) j d
+  pub field-run : (j d : ℕ) → Every (Skips-event j) (o s .events) → getD (run f o s .state .table) j d ≡ getD (s .table) j d
   field-run j d h = let v = run-each (Skips-event j) f o s h in rw (v .state) (fields-stay j d (v .some) s (v .each))
 
   pub length-run : length (run f o s .state .image) ≡ length (s .image)
   length-run = let v = run-each (λ _. Unit {0}) f o s (any (o s .events)) in rw (v .state) (length-stays (v .some) s)
     where
-      any : (es : List Event) → Each (λ _. Unit {0}) es
+      any : (es : List Event) → Every (λ _. Unit {0}) es
       any [] = tt
       any (e ∷ es) = (tt, any es)

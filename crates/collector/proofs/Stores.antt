@@ -40,7 +40,7 @@ use Rattle.blocks.specs.Record.{erasedRecord}
 use Rattle.blocks.specs.Scan.{isAllocated}
 use Rattle.collector.specs.Table.{Event, unit, field, Both, gc, Pass, onImage, storing, allowing}
 use Rattle.collector.specs.Passes.{deleteObject, repairBy, payloadFrom, repairing, repaired, visitOne, wornBy, wornOut, formatting, renewing, erasingBy, erasing, unfinishedIn, deletedIn, eraseInvalidFinishedBlock, eraseFullFinishedBlock}
-use Rattle.collector.specs.Finished.{Each}
+use Rattle.collector.specs.Finished.{Every}
 use Rattle.collector.proofs.Events.{bind-units, ask-units, test-units, image-each, bind-each, ask-each, asked-each}
 
 -- ---- the repair of an unfinished object: its delete mark, and its size where it has none
@@ -124,16 +124,16 @@ pub record Visited (P : Event → Type 0) (g : Geometry) (b : ℕ) (h : ObjectHe
   pub allows : P (field (4 * b + 3) 1)
 
 module _ (P : Event → Type 0) (g : Geometry) (b : ℕ) where
-  repaired-each : (d : Bool) (s : Both) → P (field (4 * b + 3) 1) → Each P (repaired b d s .events)
+  repaired-each : (d : Bool) (s : Both) → P (field (4 * b + 3) 1) → Every P (repaired b d s .events)
   unfolding repaired allowing putting ask _>>=_
   repaired-each true s h = (h, tt)
   repaired-each false s h = tt
 
-  pub visit-each : (used : ℕ) (h : ObjectHeader) (s : Both) → (rankOf (h .state) ≡ 1 → Visited P g b h) → Each P (visitOne g b used h s .events)
+  pub visit-each : (used : ℕ) (h : ObjectHeader) (s : Both) → (rankOf (h .state) ≡ 1 → Visited P g b h) → Every P (visitOne g b used h s .events)
   unfolding visitOne
   visit-each used h s k = go (isAllocated h) refl
     where
-      go : (t : Bool) → isAllocated h ≡ t → Each P (pick {A = Pass Bool} t (onImage (repairing g h used) >>= λ d. repaired b d) (give true) s .events)
+      go : (t : Bool) → isAllocated h ≡ t → Every P (pick {A = Pass Bool} t (onImage (repairing g h used) >>= λ d. repaired b d) (give true) s .events)
       go true e =
           let v = k (eqb-true _ _ e) in
           bind-each P (onImage (repairing g h used)) (λ d. repaired b d) s
@@ -175,7 +175,7 @@ module _ (P : Event → Type 0) (g : Geometry) (b : ℕ) (own : Own P g b) where
         bind-units (λ u. P (unit u)) (ask (λ i. done (planAt g b i))) (λ p. carryOut g b p) img (ask-units (λ u. P (unit u)) (λ i. done (planAt g b i)) img)
         (λ p i _. carry-units p i)
 
-    formatting-each : (n : ℕ) (s : Both) → Each P (formatting g b n s .events)
+    formatting-each : (n : ℕ) (s : Both) → Every P (formatting g b n s .events)
     unfolding formatting storing putting
     formatting-each n s =
         bind-each P (onImage (formatBlock g b)) (λ _. storing b (erasedRecord (g .granularity) n)) s (image-each P (formatBlock g b) s (format-units (s .image)))
@@ -184,37 +184,37 @@ module _ (P : Event → Type 0) (g : Geometry) (b : ℕ) (own : Own P g b) where
         fits : (i v : ℕ) → i < 4 → P (field (4 * b + i) v)
         fits i v h = own .fields (4 * b + i) v (omega arith) (omega arith)
 
-    renewing-each : (n : ℕ) (s : Both) → Each P (renewing g b n s .events)
+    renewing-each : (n : ℕ) (s : Both) → Every P (renewing g b n s .events)
     unfolding renewing wornOut
     renewing-each n s = go (eqb n 4294967295)
       where
-        go : (t : Bool) → Each P (pick {A = Pass (Unit {0})} t (onImage (ask (λ img. wornBy (formatBlock g b img .answer)))) (formatting g b n) s .events)
+        go : (t : Bool) → Every P (pick {A = Pass (Unit {0})} t (onImage (ask (λ img. wornBy (formatBlock g b img .answer)))) (formatting g b n) s .events)
         go true = image-each P (ask (λ img. wornBy (formatBlock g b img .answer))) s (ask-units (λ u. P (unit u)) _ (s .image))
         go false = formatting-each n s
 
-    erasing-each : (r : BlockInfo) (d : Bool) (s : Both) → Each P (erasing g b r d s .events)
+    erasing-each : (r : BlockInfo) (d : Bool) (s : Both) → Every P (erasing g b r d s .events)
     unfolding erasing
     erasing-each r false s = ask-each P (λ _. done (tt {0})) s
     erasing-each r true s = go (r .header .kind)
       where
-        go : (k : BlockHeaderKind) → Each P (erasingBy g b r k s .events)
+        go : (k : BlockHeaderKind) → Every P (erasingBy g b r k s .events)
         go Empty = ask-each P {A = Unit {0}} (λ _. refused 2) s
         go Unknown = ask-each P {A = Unit {0}} (λ _. refused 2) s
         go (Known t) = renewing-each (r .header .«erase_count») s
 
     -- the second pass and the third
-    pub invalid-each : (r : BlockInfo) (s : Both) → Each P (eraseInvalidFinishedBlock g b r s .events)
+    pub invalid-each : (r : BlockInfo) (s : Both) → Every P (eraseInvalidFinishedBlock g b r s .events)
     unfolding eraseInvalidFinishedBlock
     invalid-each r s = go (r .«allow_alloc»)
       where
-        go : (t : Bool) → Each P (pick {A = Pass (Unit {0})} t (give tt) (ask (λ (x : Both). unfinishedIn (listing g b (x .image))) >>= λ d. erasing g b r d) s .events)
+        go : (t : Bool) → Every P (pick {A = Pass (Unit {0})} t (give tt) (ask (λ (x : Both). unfinishedIn (listing g b (x .image))) >>= λ d. erasing g b r d) s .events)
         go true = ask-each P (λ _. done (tt {0})) s
         go false = asked-each P (λ (x : Both). unfinishedIn (listing g b (x .image))) (λ d. erasing g b r d) s (λ d _. erasing-each r d s)
 
-    pub full-each : (r : BlockInfo) (s : Both) → Each P (eraseFullFinishedBlock g b r s .events)
+    pub full-each : (r : BlockInfo) (s : Both) → Every P (eraseFullFinishedBlock g b r s .events)
     unfolding eraseFullFinishedBlock
     full-each r s = go (leb (g .size - header (g .granularity) (g .s)) (r .«used_bytes»))
       where
-        go : (t : Bool) → Each P (pick {A = Pass (Unit {0})} t (give tt) (ask (λ (x : Both). deletedIn (listing g b (x .image))) >>= λ d. erasing g b r d) s .events)
+        go : (t : Bool) → Every P (pick {A = Pass (Unit {0})} t (give tt) (ask (λ (x : Both). deletedIn (listing g b (x .image))) >>= λ d. erasing g b r d) s .events)
         go true = ask-each P (λ _. done (tt {0})) s
         go false = asked-each P (λ (x : Both). deletedIn (listing g b (x .image))) (λ d. erasing g b r d) s (λ d _. erasing-each r d s)

@@ -36,7 +36,7 @@ use Rattle.blocks.specs.declared.header.BlockHeaderKind.the-variants.{Empty, Un
 use Rattle.blocks.specs.declared.record.BlockInfo.{BlockInfo}
 use Rattle.collector.specs.Table.{Event, Both, gc}
 use Rattle.collector.specs.Passes.{visitOne, goOn, visiting, deleting, deleteBy, deleteInvalidObjectsInBlock}
-use Rattle.collector.specs.Finished.{Allocated, Finished, Every, Each}
+use Rattle.collector.specs.Finished.{Allocated, Finished, Every}
 use Rattle.collector.proofs.Events.{Misses-event, bind-each, ask-each, asked-each}
 use Rattle.collector.proofs.Agreeing.{Agree, agree-self, agree-less, agree-on, next-agree, found-at, found-short}
 use Rattle.collector.proofs.Stores.{Visited, visit-each}
@@ -110,7 +110,7 @@ module _ (g : Geometry) (few : g .s ≤ 3) (b used : ℕ) (P : Event → Type 0)
       (λ o x y. visit-each (Misses-event (address g b o)) g b used h s (λ _. avoids-visited g few b o h (rw e c) (header-avoids g few o (visitOf h) (rw e (inr (omega arith))))))
 
   pub deleting-each : (n : ℕ) (i : ObjectIterator) (s : Both) (img : List ℕ) → i .location .block ≡ b → Agree g b (i .location .offset) (g .size) img (s .image)
-      → Every W (listFrom n g i img .visits) → Each P (deleting n g b used i s .events)
+      → Every W (listFrom n g i img .visits) → Every P (deleting n g b used i s .events)
   unfolding deleting listFrom
   deleting-each zero i s img c v w = ask-each P (λ _. done (tt {0})) s
   deleting-each (suc n) i s img c v w =
@@ -118,8 +118,8 @@ module _ (g : Geometry) (few : g .s ≤ 3) (b used : ℕ) (P : Event → Type 0)
       (λ x e. let q : nextOf g i (s .image) ≡ x = cc in go x (sym (next-agree g i img (s .image) (rw c v)) ∙ q) w (λ j t. deleting-each n j t img))
     where
       go : (x : Next) → nextOf g i img ≡ x → Every W (listBy (nextOf g i img) i (λ j. listFrom n g j img) .visits)
-          → ((j : ObjectIterator) (t : Both) → j .location .block ≡ b → Agree g b (j .location .offset) (g .size) img (t .image) → Every W (listFrom n g j img .visits) → Each P (deleting n g b used j t .events))
-          → Each P (visiting g b used x (λ j. deleting n g b used j) s .events)
+          → ((j : ObjectIterator) (t : Both) → j .location .block ≡ b → Agree g b (j .location .offset) (g .size) img (t .image) → Every W (listFrom n g j img .visits) → Every P (deleting n g b used j t .events))
+          → Every P (visiting g b used x (λ j. deleting n g b used j) s .events)
       go next.Free e p more = ask-each P (λ _. done (tt {0})) s
       go next.End e p more = ask-each P (λ _. done (tt {0})) s
       go (next.Refused k) e p more = ask-each P {A = Unit {0}} (λ _. refused k) s
@@ -135,18 +135,18 @@ module _ (g : Geometry) (few : g .s ≤ 3) (b used : ℕ) (P : Event → Type 0)
         where
           onward : (d : Bool) → j .location .block ≡ b
               → Agree g b (j .location .offset) (g .size) img (happen gc (visitOne g b used h s .events) s .image) → Every W (listFrom n g j img .visits)
-              → Each P (goOn d (deleting n g b used j) (happen gc (visitOne g b used h s .events) s) .events)
+              → Every P (goOn d (deleting n g b used j) (happen gc (visitOne g b used h s .events) s) .events)
           onward false q a r = ask-each P (λ _. done (tt {0})) (happen gc (visitOne g b used h s .events) s)
           onward true q a r = more j (happen gc (visitOne g b used h s .events) s) q a r
 
 -- in a block
 module _ (g : Geometry) (few : g .s ≤ 3) (b : ℕ) (P : Event → Type 0) (W : Visit → Type 0)
     (ok : (h : ObjectHeader) → h .location .block ≡ b → W (visitOf h) → rankOf (h .state) ≡ 1 → Visited P g b h) where
-  pub first-each : (r : BlockInfo) (s : Both) → Every W (listing g b (s .image) .visits) → Each P (deleteInvalidObjectsInBlock g b r s .events)
+  pub first-each : (r : BlockInfo) (s : Both) → Every W (listing g b (s .image) .visits) → Every P (deleteInvalidObjectsInBlock g b r s .events)
   unfolding deleteInvalidObjectsInBlock listing
   first-each r s w = go (r .header .kind)
     where
-      go : (k : BlockHeaderKind) → Each P (deleteBy g b r k s .events)
+      go : (k : BlockHeaderKind) → Every P (deleteBy g b r k s .events)
       go Empty = ask-each P (λ _. done (tt {0})) s
       go Unknown = ask-each P {A = Unit {0}} (λ _. refused 2) s
       go (Known t) = deleting-each g few b (r .«used_bytes») P W ok (g .size) (startOf g b) s (s .image) refl (agree-self g b _ (g .size) (s .image)) w

@@ -29,9 +29,9 @@ Allocated v = rankOf (v .object .state) ≡ 1
 abbrev pub Finalized : Visit → Type 0
 Finalized v = rankOf (v .object .state) ≡ 2
 
-abbrev pub Every : (Visit → Type 0) → List Visit → Type 0
+abbrev pub Every : {A : Type 0} → (A → Type 0) → List A → Type 0
 Every P [] = Unit {0}
-Every P (v ∷ vs) = P v × Every P vs
+Every P (x ∷ xs) = P x × Every P xs
 
 -- a finished object is among the visits
 abbrev pub Shows : List Visit → Type 0
@@ -71,10 +71,6 @@ pub record Kept (g : Geometry) (b : ℕ) (s t : Both) : Type 0 where
 
 -- ---- events
 
-abbrev pub Each : (Event → Type 0) → List Event → Type 0
-Each P [] = Unit {0}
-Each P (e ∷ es) = P e × Each P es
-
 -- not an erase
 abbrev pub Programs : Event → Type 0
 Programs (unit (programmed a bs)) = Unit {0}
@@ -103,7 +99,7 @@ PassKeepsBlock =
 
 -- the first pass formats nothing
 unfoldable pub FirstNeverErases : Type 0
-FirstNeverErases = (g : Geometry) (s : Both) → Each Programs (deleteInvalidObjects g s .events)
+FirstNeverErases = (g : Geometry) (s : Both) → Every Programs (deleteInvalidObjects g s .events)
 
 -- ---- a whole collection, at any fuse and in every end
 
