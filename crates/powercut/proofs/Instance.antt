@@ -187,7 +187,6 @@ listable-end =
     record {
       listed = record { before = []; after = []; is = refl };
       to-end = refl;
-      header-fits = lit< tt;
       last = refl;
       stop = refl;
     }
@@ -198,7 +197,6 @@ listable-behind =
     record {
       listed = record { before = []; after = []; is = refl };
       to-end = refl;
-      header-fits = lit< tt;
       last = refl;
       stop = refl;
     }

@@ -5,6 +5,7 @@ pub mod Ran
 pub mod Survive
 pub mod Answers
 pub mod Walk
+pub mod Steps
 pub mod Phantom
 pub mod Listed
 pub mod Instance

@@ -39,6 +39,7 @@ use Rattle.powercut.specs.Stores.{before}
 use Rattle.powercut.proofs.Ran.{Ready, ran}
 use Rattle.powercut.proofs.Survive.{us, units-are, cut-before, move-traced, copy-size, span-is, fine-is, told, long, apart-plain, ready, demand}
 use Rattle.powercut.proofs.Walk.{place, visit, spanAt, next-in, next-end, next-object, span-least, Agree, Walked, walk-le, unwalk, Reached, reached, ended, walk-same, walk-count, list-count}
+use Rattle.powercut.proofs.Steps.{free-fits}
 use Rattle.powercut.proofs.Phantom.{Partly, payload-partly, none-behind}
 
 count-append : (g : Geometry) (b : ℕ) (t : ObjectType) (pay m : List ℕ) (xs ys : List Visit) → countIn g b t pay m (xs ++ ys) ≡ countIn g b t pay m xs + countIn g b t pay m ys
@@ -115,6 +116,11 @@ module _ (g : Geometry) (h : ObjectHeader) (to : ObjectLocation) (room : ℕ) (t
 
   l : Laid (g .granularity) (g .s) (payloadOf (g .s) h)
   l = laid (g .granularity) (g .s) (payloadOf (g .s) h) (fine-is g h to room t img v .sound .s-most)
+
+  -- the listing stops free at the destination, so a header fits there
+  header-fits : to .offset + header (g .granularity) (g .s) < g .size
+  unfolding listing
+  header-fits = subst (λ (e : ℕ). e + header (g .granularity) (g .s) < g .size) (w .last) (free-fits g (to .block) img (v .fine) (g .size) start (w .stop))
 
   near : header (g .granularity) (g .s) + payloadOf (g .s) h ≤ sp
   near = span-least g src img (v .fine) h .0
@@ -213,8 +219,8 @@ module _ (g : Geometry) (h : ObjectHeader) (to : ObjectLocation) (room : ℕ) (t
         list-count g src img last (m .len) (v .fine) hs t pay left (off + sp) (λ j c d. m .framed j (clear-block j ne (omega arith) (omega arith)) (λ e. omega (arith, mark-inside))) in
         let k : Walked g dst img start (listing g dst img .visits) (to .offset) = ended g dst (g .size) img start (to .offset) (w .stop) (w .last) in
         let c : copiesIn g dst t pay last ≡ to-count + y =
-        to-end last x y m dst (g .size) start (v .block) (listing g dst img .visits) refl k (omega (arith, walk-le g dst img (v .fine) (listing g dst img .visits) start (to .offset) k, w .header-fits))
-        (λ j c d. m .framed j (inl d) (λ e. other-block j ne c (omega (arith, w .header-fits)) (omega (arith, mark-inside, whole-in)) e)) in
+        to-end last x y m dst (g .size) start (v .block) (listing g dst img .visits) refl k (omega (arith, walk-le g dst img (v .fine) (listing g dst img .visits) start (to .offset) k, header-fits))
+        (λ j c d. m .framed j (inl d) (λ e. other-block j ne c (omega (arith, header-fits)) (omega (arith, mark-inside, whole-in)) e)) in
         omega (arith, a, b, c)
       where
         other-block : (j : ℕ) → src ≢ dst → address g dst start ≤ j → j < dst * g .size + g .size → p + deleteAt (g .granularity) < src * g .size + g .size → j ≡ p + deleteAt (g .granularity) → ⊥
@@ -237,7 +243,7 @@ module _ (g : Geometry) (h : ObjectHeader) (to : ObjectLocation) (room : ℕ) (t
         let a : copiesIn g src t pay last ≡ before-count + (x + countIn g src t pay last (listFrom left g (placed src (off + sp)) last .visits)) =
         from-original last x y m (λ j c d. m .framed j (inl (omega arith)) (λ n. omega arith)) in
         let b : countIn g src t pay last (listFrom left g (placed src (off + sp)) last .visits) ≡ behind-count + y =
-        to-end last x y m src left (off + sp) hs behind-visits e k (omega (arith, original-at .fuel, w .header-fits, mark-inside))
+        to-end last x y m src left (off + sp) hs behind-visits e k (omega (arith, original-at .fuel, header-fits, mark-inside))
         (λ j c d. m .framed j (inl (omega arith)) (λ n. omega (arith, mark-inside))) in
         omega (arith, a, b)
 
@@ -301,19 +307,19 @@ module _ (g : Geometry) (h : ObjectHeader) (to : ObjectLocation) (room : ℕ) (t
           → countIn g dst t pay last (listBy (nextOf g (placed dst (to .offset)) last) (placed dst (to .offset)) (λ j. listFrom n g j last) .visits) ≡ 0
       go (inl i) =
           ap (λ (x : Next). countIn g dst t pay last (listBy x (placed dst (to .offset)) (λ j. listFrom n g j last) .visits))
-          (next-in g dst last fine (to .offset) (w .header-fits) ∙ ap (nextIn g (placed dst (to .offset))) i)
+          (next-in g dst last fine (to .offset) (header-fits) ∙ ap (nextIn g (placed dst (to .offset))) i)
       go (inr i) =
           let o : ObjectHeader = record { state = Allocated t Untrusted; size = u .size; location = to } in
-          ap (λ (x : Next). countIn g dst t pay last (listBy x (placed dst (to .offset)) (λ j. listFrom n g j last) .visits)) (next-object g dst last fine (to .offset) o (w .header-fits) i)
+          ap (λ (x : Next). countIn g dst t pay last (listBy x (placed dst (to .offset)) (λ j. listFrom n g j last) .visits)) (next-object g dst last fine (to .offset) o (header-fits) i)
           ∙ ap₂ (λ (x : Bool) (c : ℕ). pick x 1 0 + c) (begun-counts g dst (to .offset) (u .size) to t pay last)
-          (none-behind g dst last fine (v .block) t pay (to .offset) (w .header-fits) some n (to .offset + spanAt g dst o) (omega (arith, span-least g dst last fine o)))
+          (none-behind g dst last fine (v .block) t pay (to .offset) (header-fits) some n (to .offset + spanAt g dst o) (omega (arith, span-least g dst last fine o)))
 
   -- after it, one
   copied-tail : (last : List ℕ) → length last ≡ length img → ((j : ℕ) → Clear q (q + sp) j → j ≢ p + deleteAt (g .granularity) → getD last j 0 ≡ getD img j 0)
       → Whole g (copyOf g h to) t pay last → (n : ℕ) → countIn g dst t pay last (listFrom (suc n) g (placed dst (to .offset)) last .visits) ≡ 1
   unfolding listFrom
   copied-tail last len framed c n =
-      ap (λ (x : Next). countIn g dst t pay last (listBy x (placed dst (to .offset)) (λ j. listFrom n g j last) .visits)) (next-object g dst last fine (to .offset) (copyOf g h to) (w .header-fits) (c .info))
+      ap (λ (x : Next). countIn g dst t pay last (listBy x (placed dst (to .offset)) (λ j. listFrom n g j last) .visits)) (next-object g dst last fine (to .offset) (copyOf g h to) (header-fits) (c .info))
       ∙ ap₂ (λ (x : Bool) (i : ℕ). pick x 1 0 + i) (whole-counts g (copyOf g h to) t pay last small c)
       (ap (λ (i : ℕ). countIn g dst t pay last (listFrom n g (placed dst (to .offset + i)) last .visits)) copy-span ∙ nothing n)
     where

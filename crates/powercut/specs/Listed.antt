@@ -5,12 +5,12 @@
 use mathlib.Core.Path.{_≡_}
 use mathlib.Core.Bool.{Bool, true, false, _&&_}
 use mathlib.Core.List.{List, [], _∷_, _++_}
-use Prim.Native.Nat.{ℕ, suc, _+_, _≤_, _<_}
+use Prim.Native.Nat.{ℕ, suc, _+_, _≤_}
 use lib.Dec.{eqb}
 use Rattle.medium.specs.declared.geometry.Geometry.{Geometry}
 use Rattle.medium.specs.declared.fuse.Fuse.{Fuse}
 use Rattle.medium.specs.declared.fuse.Fuse.the-variants.{Absent, Units}
-use Rattle.medium.specs.Granularity.{pick, header}
+use Rattle.medium.specs.Granularity.{pick}
 use Rattle.medium.specs.Operation.{Answer, done, refused, andThen, run}
 use Rattle.objects.specs.declared.types.ObjectType.{ObjectType}
 use Rattle.objects.specs.declared.state.CompositeObjectState.{CompositeObjectState}
@@ -68,7 +68,6 @@ pub record Among (v : Visit) (vs : List Visit) : Type 0 where
 pub record Listable (g : Geometry) (h : ObjectHeader) (to : ObjectLocation) (room : ℕ) (img : List ℕ) : Type 0 where
   pub listed : Among (record { offset = h .location .offset; object = h }) (listing g (h .location .block) img .visits)
   pub to-end : to .offset + room ≡ g .size
-  pub header-fits : to .offset + header (g .granularity) (g .s) < g .size
   pub last : listing g (to .block) img .last ≡ to .offset
   pub stop : listing g (to .block) img .stop ≡ free
 
