@@ -22,7 +22,7 @@ use Rattle.medium.proofs.Runs.{prefix-flash, cost-flash, leb-is, leb-yes, leb-n
 use Rattle.medium.proofs.Bytes.{length-apply}
 use Rattle.powercut.specs.Stores.{before, markUnits}
 use Rattle.powercut.proofs.Crash.{copy-before, copy-between, framed-copied, original-cut}
-use Rattle.powercut.proofs.Ran.{Ready, ran, copy-ran}
+use Rattle.powercut.proofs.Ran.{Ready, able, ran, copy-ran}
 use Rattle.powercut.proofs.Survive.{all-copied, length-before, length-copied, N, copy-is, original-whole, copy-whole, copy-unfinished, span-is, units-are, ready, demand}
 
 pub never-gone : NeverGone
@@ -67,7 +67,7 @@ module _ (g : Geometry) (h : ObjectHeader) (to : ObjectLocation) (t : ObjectType
   begun = before (g .granularity) (g .s) t pay (addressOf g to)
 
   copy-traced : copyObject g h to img ≡ ran us (copyOf g h to)
-  copy-traced = copy-ran g h to t pay img r ∙ ap₂ (λ (u : List FlashUnit) (x : ObjectHeader). ran u x) (simp append-nil) (copy-is g h to t pay img r)
+  copy-traced = copy-ran g h to t pay img (able g h to t pay img r) ∙ ap₂ (λ (u : List FlashUnit) (x : ObjectHeader). ran u x) (simp append-nil) (copy-is g h to t pay img r)
 
   kept-at : (k : ℕ) → Kept g h to t pay img (apply (take k us) img)
   kept-at k =

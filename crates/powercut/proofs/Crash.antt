@@ -23,7 +23,7 @@ use Rattle.powercut.specs.Stores.{typeUnits, payUnits, sizeUnits, markUn
 use Rattle.medium.proofs.Runs.{apply-append, leb-is}
 use Rattle.medium.proofs.Bytes.{and-ff, ff-and, program-off, program-at, Misses, All, All-append, All-take, frame, store-miss, store-whole, length-apply, stored, getD-pad, part-is, getD-part, length-padded}
 use Rattle.medium.proofs.Places.{Laid, laid}
-use Rattle.powercut.proofs.Places.{span}
+use Rattle.powercut.proofs.Places.{span, far-from}
 use Rattle.powercut.proofs.Reading.{stateSeen, sizeSeen, Stands, type-small, Shown, shown, seen-object, seen-free, blank-marks, mark-valid, mark-deleted, part-same, stands-same, length-bytes, byte-bytes, size-says}
 
 -- ---- a byte clear of an interval
@@ -79,6 +79,10 @@ pub record Given (g : Granularity) (s : ℕ) (t : ObjectType) (p q size : ℕ) (
   pub blank : (i : ℕ) → i < span g s (length pay) → getD img (q + i) 0 ≡ 255
   pub apart : (p + span g s (length pay) ≤ q) ⊎ (q + span g s (length pay) ≤ p)
 
+swap : {A B : Type 0} → A ⊎ B → B ⊎ A
+swap (inl a) = inr a
+swap (inr b) = inl b
+
 -- the one unit of a one-byte store
 one-unit : (g : Granularity) (a b : ℕ) → unitsOf (widthOf g) a (b ∷ []) ≡ programmed a (padded (widthOf g) (b ∷ [])) ∷ []
 one-unit Bit a b = refl
@@ -98,19 +102,11 @@ module _ (g : Granularity) (s : ℕ) (t : ObjectType) (p q size : ℕ) (pay img 
   l = laid g s (length pay) (v .width-3)
 
   -- a byte of the original, or one of the copy, is clear of the other's span
-  pub far : (j : ℕ) → p ≤ j → j < p + span g s (length pay) → Clear q (q + span g s (length pay)) j
-  far j a b = go (v .apart)
-    where
-      go : (p + span g s (length pay) ≤ q) ⊎ (q + span g s (length pay) ≤ p) → Clear q (q + span g s (length pay)) j
-      go (inl h) = inl (omega arith)
-      go (inr h) = inr (omega arith)
+  far : (j : ℕ) → p ≤ j → j < p + span g s (length pay) → Clear q (q + span g s (length pay)) j
+  far j = far-from p q (span g s (length pay)) j (v .apart)
 
   far-copy : (j : ℕ) → q ≤ j → j < q + span g s (length pay) → Clear p (p + span g s (length pay)) j
-  far-copy j a b = go (v .apart)
-    where
-      go : (p + span g s (length pay) ≤ q) ⊎ (q + span g s (length pay) ≤ p) → Clear p (p + span g s (length pay)) j
-      go (inl h) = inr (omega arith)
-      go (inr h) = inl (omega arith)
+  far-copy j = far-from q p (span g s (length pay)) j (swap (v .apart))
 
   type-known : Shown g (getD img p 0) (getD img (p + finishAt g) 0) (getD img (p + deleteAt g) 0) t Valid
   type-known = shown g (getD img p 0) (getD img (p + finishAt g) 0) (getD img (p + deleteAt g) 0) t Valid (v .original .state)

@@ -3,7 +3,9 @@ pub mod Reading
 pub mod Crash
 pub mod Ran
 pub mod Survive
+pub mod Twice
 pub mod Answers
+pub mod Again
 pub mod Walk
 pub mod Steps
 pub mod Phantom

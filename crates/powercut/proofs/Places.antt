@@ -1,5 +1,6 @@
 -- Where an object's bytes lie, for all three granularities at once: after this file nothing splits on the granularity but one-liners.
 use mathlib.Core.Path.{_≡_, refl, sym, ap, _∙_}
+use mathlib.Core.Logic.{_⊎_, inl, inr}
 use Prim.Native.Nat.{ℕ, zero, suc, _+_, _-_, _*_, _/_, _%_, _^_, _≤_, _<_}
 use native.Mathlib.Nat.{mul-assoc}
 use native.Mathlib.Omega.{arith}
@@ -9,6 +10,7 @@ use Rattle.medium.specs.declared.geometry.Geometry.{Geometry}
 use Rattle.medium.specs.Granularity.{widthOf, unitsIn, alignOf, header}
 use Rattle.medium.specs.Geometry.{limitOf, address}
 use Rattle.medium.proofs.Places.{even-add, quad-even}
+use Rattle.powercut.specs.Demand.{Clear}
 
 -- the bytes that an object with n bytes of payload takes, aligned up
 abbrev pub span : Granularity → ℕ → ℕ → ℕ
@@ -50,6 +52,12 @@ address-even g b off h k = even-add (g .granularity) (b * g .size) off (quad-eve
     four =
         let e : g .size ≡ g .size / 4 * 4 = omega arith in
         ap (λ (x : ℕ). b * x) e ∙ sym (mul-assoc b (g .size / 4) 4)
+
+-- ---- two intervals of n bytes apart
+
+pub far-from : (p q n j : ℕ) → (p + n ≤ q) ⊎ (q + n ≤ p) → p ≤ j → j < p + n → Clear q (q + n) j
+far-from p q n j (inl h) a b = inl (omega arith)
+far-from p q n j (inr h) a b = inr (omega arith)
 
 -- ---- the widths that are allowed
 

@@ -36,10 +36,10 @@ use Rattle.medium.proofs.Bytes.{length-part, frame, length-apply}
 use Rattle.medium.proofs.Split.{units-split, none-stored, part-add}
 use Rattle.medium.proofs.Places.{width-is, Laid, laid, even-add}
 use Rattle.medium.proofs.Checks.{Fine, admit-pass, within, fine-of-check}
-use Rattle.powercut.proofs.Places.{span, tail-room, Floored, floored}
-use Rattle.powercut.proofs.Reading.{part-same, length-bytes, read-yes, state-read, headerOf}
+use Rattle.powercut.proofs.Places.{span, tail-room, Floored, floored, far-from}
+use Rattle.powercut.proofs.Reading.{stateSeen, part-same, length-bytes, read-yes, state-read, headerOf}
 use Rattle.powercut.specs.Stores.{typeUnits, payUnits, sizeUnits, markUnits, deleteUnits, moveUnits}
-use Rattle.powercut.proofs.Crash.{Given, far, copy-free, inside}
+use Rattle.powercut.proofs.Crash.{Given, copy-free, inside}
 
 -- ---- steps that are done
 
@@ -82,6 +82,20 @@ write-ran g b off bs m f h k r =
 tail-held : (tl : List ℕ) → length tl ≤ 4 → take (length tl) (tailOf tl) ≡ tl
 tail-held tl h = take-take (length tl) 4 (tl ++ noTail) h ∙ take-append-le (length tl) tl noTail (omega arith) ∙ take-length tl
 
+-- a reader of a finished object
+reader-of : (g : Geometry) (h : ObjectHeader) (t : ObjectType) (m : List ℕ) → headerAt g (h .location) m ≡ done h → h .state ≡ Allocated t Valid
+    → readerAt g (h .location) false m ≡ done (record { object = h; cursor = 0 })
+unfolding readerAt
+reader-of g h t m just-read finished = rw (just-read, finished)
+
+-- what is to be copied of it
+pub source-of : (g : Geometry) (h : ObjectHeader) (t : ObjectType) (n : ℕ) (m : List ℕ) → headerAt g (h .location) m ≡ done h → h .state ≡ Allocated t Valid → payloadOf (g .s) h ≡ n
+    → sourceAt g h m ≡ done (record { kind = t; size = n })
+unfolding sourceAt
+source-of g h t n m just-read finished payload =
+    ap (λ (x : Answer ObjectReader). andThen x (λ r. sourceIn (h .state) (payloadOf (g .s) (r .object)))) (reader-of g h t m just-read finished)
+    ∙ ap₂ sourceIn finished payload
+
 -- ---- the move of an object: what is given
 
 pub record Ready (g : Geometry) (h : ObjectHeader) (to : ObjectLocation) (t : ObjectType) (pay img : List ℕ) : Type 0 where
@@ -97,7 +111,57 @@ pub record Ready (g : Geometry) (h : ObjectHeader) (to : ObjectLocation) (t : Ob
   pub in-block-to : to .offset + span (g .granularity) (g .s) (length pay) ≤ g .size
   pub given : Given (g .granularity) (g .s) t (address g (h .location .block) (h .location .offset)) (address g (to .block) (to .offset)) (h .size) pay img
 
-module _ (g : Geometry) (h : ObjectHeader) (to : ObjectLocation) (t : ObjectType) (pay img : List ℕ) (v : Ready g h to t pay img) where
+-- what the steps of a move look at: the original's header and payload, the ranges, and a state at the destination that can be allocated over
+pub record Able (g : Geometry) (h : ObjectHeader) (to : ObjectLocation) (t : ObjectType) (pay img : List ℕ) : Type 0 where
+  pub fine : checkOf g (length img) ≡ 0
+  pub just-read : headerAt g (h .location) img ≡ done h
+  pub finished : h .state ≡ Allocated t Valid
+  pub payload : payloadOf (g .s) h ≡ length pay
+  pub block : h .location .block < g .count
+  pub aligned : h .location .offset % widthOf (g .granularity) ≡ 0
+  pub in-block : h .location .offset + span (g .granularity) (g .s) (length pay) ≤ g .size
+  pub block-to : to .block < g .count
+  pub aligned-to : to .offset % widthOf (g .granularity) ≡ 0
+  pub in-block-to : to .offset + span (g .granularity) (g .s) (length pay) ≤ g .size
+  pub width-3 : g .s ≤ 3
+  pub bytes-are : part (address g (h .location .block) (h .location .offset) + header (g .granularity) (g .s)) (length pay) img ≡ pay
+  pub apart : (address g (h .location .block) (h .location .offset) + span (g .granularity) (g .s) (length pay) ≤ address g (to .block) (to .offset))
+      ⊎ (address g (to .block) (to .offset) + span (g .granularity) (g .s) (length pay) ≤ address g (h .location .block) (h .location .offset))
+  pub there : CompositeObjectState
+  pub state-there : stateSeen (g .granularity) (address g (to .block) (to .offset)) img ≡ done there
+  pub allocatable : allocatableOf t there ≡ done tt
+
+-- an image with the original's header and payload, and a state at the destination that can be allocated over
+pub able-on : (g : Geometry) (h : ObjectHeader) (to : ObjectLocation) (t : ObjectType) (pay img m : List ℕ) → Ready g h to t pay img → length m ≡ length img
+    → headerAt g (h .location) m ≡ done h → part (address g (h .location .block) (h .location .offset) + header (g .granularity) (g .s)) (length pay) m ≡ pay
+    → (st : CompositeObjectState) → stateSeen (g .granularity) (address g (to .block) (to .offset)) m ≡ done st → allocatableOf t st ≡ done tt → Able g h to t pay m
+able-on g h to t pay img m v len read bytes st seen al =
+    record {
+      fine = ap (checkOf g) len ∙ v .fine;
+      just-read = read;
+      finished = v .finished;
+      payload = v .payload;
+      block = v .block;
+      aligned = v .aligned;
+      in-block = v .in-block;
+      block-to = v .block-to;
+      aligned-to = v .aligned-to;
+      in-block-to = v .in-block-to;
+      width-3 = v .given .width-3;
+      bytes-are = bytes;
+      apart = v .given .apart;
+      there = st;
+      state-there = seen;
+      allocatable = al;
+    }
+
+pub able : (g : Geometry) (h : ObjectHeader) (to : ObjectLocation) (t : ObjectType) (pay img : List ℕ) → Ready g h to t pay img → Able g h to t pay img
+unfolding allocatableOf
+able g h to t pay img v =
+    able-on g h to t pay img img v refl (v .just-read) (v .given .original .bytes-are) Free
+    (copy-free (g .granularity) (g .s) t (address g (h .location .block) (h .location .offset)) (address g (to .block) (to .offset)) (h .size) pay img (v .given)) refl
+
+module _ (g : Geometry) (h : ObjectHeader) (to : ObjectLocation) (t : ObjectType) (pay img : List ℕ) (v : Able g h to t pay img) where
   abbrev gr : Granularity
   gr = g .granularity
 
@@ -126,7 +190,7 @@ module _ (g : Geometry) (h : ObjectHeader) (to : ObjectLocation) (t : ObjectType
   fine-is = fine-of-check g (length img) (checkOf g (length img)) refl (v .fine)
 
   l : Laid (g .granularity) (g .s) (length pay)
-  l = laid (g .granularity) (g .s) (length pay) (v .given .width-3)
+  l = laid (g .granularity) (g .s) (length pay) (v .width-3)
 
   small : g .size ≤ 65536
   small = fine-is .sound .small
@@ -236,7 +300,7 @@ module _ (g : Geometry) (h : ObjectHeader) (to : ObjectLocation) (t : ObjectType
       record {
         length-kept = length-apply (unitsOf w a bs) m ∙ k .length-kept;
         bytes-kept = λ j x y. frame j 0 (unitsOf w a bs) m
-            (inside w (l .pos) a bs q (q + sp) j h1 h2 (far (g .granularity) (g .s) t p q (h .size) pay img (v .given) j x y))
+            (inside w (l .pos) a bs q (q + sp) j h1 h2 (far-from p q sp j (v .apart) x y))
             ∙ k .bytes-kept j x y;
       }
 
@@ -395,7 +459,7 @@ module _ (g : Geometry) (h : ObjectHeader) (to : ObjectLocation) (t : ObjectType
       (store-ran (write g (to .block) (to .offset + finishAt gr) (finishMark gr ∷ [])) m (markUnits gr q) (headerOf (Allocated t Valid) n to)
       (put m (finishAt gr) (finishMark gr ∷ []) e (l .finish-even) (omega (arith, l))))
 
-  delete-ran : (m : List ℕ) → length m ≡ length img → setState g h Deleted m ≡ ran (deleteUnits gr p) (headerOf (Allocated t Deleted) (h .size) (h .location))
+  pub delete-ran : (m : List ℕ) → length m ≡ length img → setState g h Deleted m ≡ ran (deleteUnits gr p) (headerOf (Allocated t Deleted) (h .size) (h .location))
   unfolding setState marking
   delete-ran m e =
       ap (λ (st : CompositeObjectState). (test {W = flash} (λ i. checkOf g (length i)) >> stepTo g h Deleted st) m) (v .finished)
@@ -437,27 +501,20 @@ module _ (g : Geometry) (h : ObjectHeader) (to : ObjectLocation) (t : ObjectType
 
   -- ---- the whole
 
-  reader-ran : readerAt g (h .location) false img ≡ done (record { object = h; cursor = 0 })
-  unfolding readerAt
-  reader-ran = rw (v .just-read, v .finished)
-
   source-ran : sourceAt g h img ≡ done (record { kind = t; size = length pay })
-  unfolding sourceAt
-  source-ran =
-      ap (λ (x : Answer ObjectReader). andThen x (λ r. sourceIn (h .state) (payloadOf (g .s) (r .object)))) reader-ran
-      ∙ ap₂ sourceIn (v .finished) (v .payload)
+  source-ran = source-of g h t (length pay) img (v .just-read) (v .finished) (v .payload)
 
   allocate-ran : allocate g to t img ≡ ran (typeUnits gr t q) (writer 0 [])
-  unfolding allocate allocatableOf
+  unfolding allocate
   allocate-ran =
       let ad : to .offset ≡ to .offset + 0 = omega arith in
       let aq : q + 0 ≡ q = omega arith in
       let st : write g (to .block) (to .offset) (typeByte t ∷ []) img ≡ ran (typeUnits gr t q) tt =
       ap (λ (i : ℕ). write g (to .block) i (typeByte t ∷ []) img) ad ∙ put img 0 (typeByte t ∷ []) refl (zero-mod w) (omega (arith, l))
       ∙ ap (λ (i : ℕ). ran (unitsOf w i (typeByte t ∷ [])) tt) aq in
-      asked (stateAt g to) (λ st. ask (λ _. allocatableOf t st) >> (write g (to .block) (to .offset) (typeByte t ∷ []) >> give (writer 0 []))) img (typeUnits gr t q) Free (writer 0 [])
-      (state-read g to img (v .fine) (v .block-to) (omega (arith, l, v .in-block-to)) ∙ copy-free gr (g .s) t p q (h .size) pay img (v .given))
-      (asked (λ _. allocatableOf t Free) (λ _. write g (to .block) (to .offset) (typeByte t ∷ []) >> give (writer 0 [])) img (typeUnits gr t q) tt (writer 0 []) refl
+      asked (stateAt g to) (λ st. ask (λ _. allocatableOf t st) >> (write g (to .block) (to .offset) (typeByte t ∷ []) >> give (writer 0 []))) img (typeUnits gr t q) (v .there) (writer 0 [])
+      (state-read g to img (v .fine) (v .block-to) (omega (arith, l, v .in-block-to)) ∙ v .state-there)
+      (asked (λ _. allocatableOf t (v .there)) (λ _. write g (to .block) (to .offset) (typeByte t ∷ []) >> give (writer 0 [])) img (typeUnits gr t q) tt (writer 0 []) (v .allocatable)
       (store-ran (write g (to .block) (to .offset) (typeByte t ∷ [])) img (typeUnits gr t q) (writer 0 []) st))
 
   first-kept : Kept (apply (typeUnits gr t q) img)
@@ -478,7 +535,7 @@ module _ (g : Geometry) (h : ObjectHeader) (to : ObjectLocation) (t : ObjectType
       let e : length (apply (x .us) (apply (typeUnits gr t q) img)) ≡ length img = length-apply (x .us) m ∙ length-apply (typeUnits gr t q) img in
       let a2 : q + H + 0 ≡ q + H = omega arith in
       let a3 : address g b (off + H) ≡ p + H = omega arith in
-      let pays : part (address g b (off + H)) (length pay) img ≡ pay = ap (λ (a : ℕ). part a (length pay) img) a3 ∙ v .given .original .bytes-are in
+      let pays : part (address g b (off + H)) (length pay) img ≡ pay = ap (λ (a : ℕ). part a (length pay) img) a3 ∙ v .bytes-are in
       bind-ran (copying (turnsOf (length pay)) g b (off + H) (length pay) (writer 0 [])) (λ x. finalize g x >>= λ y. give (y .object)) m
       (x .us) (u ++ closing) (writer (x .last-cur) (x .last-tl)) copy (x .ran-is)
       (bind-ran (finalize g (writer (x .last-cur) (x .last-tl))) (λ y. give (y .object)) i (u ++ closing) [] closed copy

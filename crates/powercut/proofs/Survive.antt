@@ -35,7 +35,7 @@ use Rattle.powercut.proofs.Reading.{stateSeen, Stands, length-bytes, si
 use Rattle.powercut.specs.Stores.{typeUnits, payUnits, sizeUnits, markUnits, deleteUnits, before, moveUnits, Ordered}
 use Rattle.powercut.specs.Call.{Survived}
 use Rattle.powercut.proofs.Crash.{one-long, copied, everything, original-before, copy-before, original-between, copy-between, original-after, size-after, copy-after, framed-copied, framed-moved}
-use Rattle.powercut.proofs.Ran.{Ready, ran, move-ran}
+use Rattle.powercut.proofs.Ran.{Ready, able, ran, move-ran}
 
 module _ (g : Geometry) (h : ObjectHeader) (to : ObjectLocation) (t : ObjectType) (pay img : List ℕ) (r : Ready g h to t pay img) where
   abbrev gr : Granularity
@@ -88,7 +88,7 @@ module _ (g : Geometry) (h : ObjectHeader) (to : ObjectLocation) (t : ObjectType
   pub length-copied : length all-copied ≡ N + 1
   length-copied = simp length-append (omega (arith, length-type, length-pay, length-size, length-mark))
 
-  as-copied : us ≡ all-copied ++ deleteUnits gr p
+  pub as-copied : us ≡ all-copied ++ deleteUnits gr p
   as-copied = simp (append-assoc, append-nil)
 
   as-moved : us ≡ all-moved
@@ -102,7 +102,7 @@ module _ (g : Geometry) (h : ObjectHeader) (to : ObjectLocation) (t : ObjectType
   cut-copied : (k : ℕ) → k ≤ N + 1 → take k us ≡ take k all-copied
   cut-copied k c = ap (take k) as-copied ∙ take-append-le k all-copied (deleteUnits gr p) (omega (arith, length-copied))
 
-  cut-between : (k : ℕ) → k ≡ N + 1 → take k us ≡ all-copied
+  pub cut-between : (k : ℕ) → k ≡ N + 1 → take k us ≡ all-copied
   cut-between k c = cut-copied k (omega arith) ∙ take-all k all-copied (omega (arith, length-copied))
 
   cut-moved : (k : ℕ) → N + 2 ≤ k → take k us ≡ all-moved
@@ -168,7 +168,7 @@ module _ (g : Geometry) (h : ObjectHeader) (to : ObjectLocation) (t : ObjectType
   traced = ran us (copyOf g h to)
 
   pub move-traced : moveObject g h to img ≡ traced
-  move-traced = move-ran g h to t pay img r ∙ ap (ran us) copy-is
+  move-traced = move-ran g h to t pay img (able g h to t pay img r) ∙ ap (ran us) copy-is
 
   survives-by : (k : ℕ) (e : End ObjectHeader) → e .state ≡ apply (take k us) img → (k < N + 2 → (e .answer ≡ refused 8) × (e .fuse ≡ Units 0))
       → (N + 2 ≤ k → (e .answer ≡ done (copyOf g h to)) × (e .fuse ≡ Units (k - (N + 2)))) → Survives g h to t pay img k e

@@ -1,5 +1,6 @@
 pub mod Demand
 pub mod Stores
 pub mod Answers
+pub mod Again
 pub mod Listed
 pub mod Call

@@ -1,0 +1,222 @@
+-- The same move again after a cut: its steps find what they found the first time, so it stores the same units, and a unit programmed twice is
+-- as good as once.
+use mathlib.Core.Path.{_≡_, refl, sym, ap, _∙_, subst}
+use mathlib.Core.Logic.{_⊎_, inl, inr}
+use mathlib.Core.Bool.{Bool, true, false}
+use mathlib.Core.List.{List, [], _∷_, _++_}
+use Prim.Native.Nat.{ℕ, _+_, _≤_, _<_, max}
+use native.Mathlib.Omega.{arith}
+use lib.ListN.{length, take}
+use lib.Seq.{take-all}
+use lib.Dec.{leb}
+use borrow.Author.Tests.{eq-eqb}
+use Rattle.medium.specs.declared.granularity.Granularity.{Granularity}
+use Rattle.medium.specs.declared.geometry.Geometry.{Geometry}
+use Rattle.medium.specs.declared.fuse.Fuse.{Fuse}
+use Rattle.medium.specs.declared.fuse.Fuse.the-variants.{Absent, Units}
+use Rattle.medium.specs.Granularity.{widthOf, finishAt, deleteAt, finishMark, sizeAt, header}
+use Rattle.medium.specs.Geometry.{checkOf}
+use Rattle.medium.specs.Units.{FlashUnit}
+use Rattle.medium.specs.Operation.{flash, apply, cost, done, refused, Run, Op, End, next, cutBy, cut, run, _>>=_, _>>_, ask, give}
+use Rattle.medium.specs.Medium.{write}
+use Rattle.objects.specs.declared.types.ObjectType.{ObjectType}
+use Rattle.objects.specs.declared.state.ObjectDataState.the-variants.{Untrusted, Valid, Deleted}
+use Rattle.objects.specs.declared.state.CompositeObjectState.{CompositeObjectState}
+use Rattle.objects.specs.declared.state.CompositeObjectState.the-variants.{Free, Allocated}
+use Rattle.objects.specs.declared.location.ObjectLocation.{ObjectLocation}
+use Rattle.objects.specs.declared.header.ObjectHeader.{ObjectHeader}
+use Rattle.objects.specs.Numbers.{bytes}
+use Rattle.objects.specs.Types.{typeByte}
+use Rattle.objects.specs.Header.{stateAt, allocatableOf, setState}
+use Rattle.writer.specs.declared.writer.ObjectWriter.{ObjectWriter}
+use Rattle.writer.specs.Writer.{freshOf, allocate, finalize}
+use Rattle.writer.specs.Moving.{payloadAt, sourceAt, turnsOf, copying, copyObject, moveObject}
+use Rattle.powercut.specs.Demand.{addressOf, payloadIn, copyOf, unitsTo}
+use Rattle.powercut.specs.Stores.{typeUnits, payUnits, sizeUnits, markUnits, deleteUnits, before}
+use Rattle.powercut.specs.Again.{leftBy, goneOf, Resumes, Completes, Again}
+use Rattle.medium.proofs.Runs.{apply-append, prefix-flash, cost-flash, leb-is, leb-yes, leb-no, run-bind, ask-on, ask-stop}
+use Rattle.medium.proofs.Bytes.{All, All-append, length-apply}
+use Rattle.medium.proofs.Places.{laid}
+use Rattle.powercut.proofs.Twice.{Programs, store-programs, cut-twice}
+use Rattle.powercut.proofs.Reading.{stateSeen, Stands, state-read}
+use Rattle.powercut.proofs.Crash.{original-before, copy-before, original-between, copy-between}
+use Rattle.powercut.proofs.Ran.{Ready, Able, able, able-on, ran, source-of, move-ran, delete-ran}
+use Rattle.powercut.proofs.Survive.{N, us, all-copied, as-copied, cut-before, cut-between, units-are, copy-is, original-whole, move-traced, ready}
+
+-- ---- a traced run under a fuse
+
+module _ {A : Type 0} (o : Op A) (vs : List FlashUnit) (x : A) (m : List ℕ) (e : o m ≡ ran vs x) where
+  -- the image at each cut
+  pub state-cut : (k : ℕ) → run (Units k) o m .state ≡ apply (take k vs) m
+  unfolding run
+  state-cut k = ap (λ (r : Run flash A). cut {W = flash} (Units k) r m .state) e ∙ go (leb-is (length vs) k)
+    where
+      go : (length vs ≤ k) ⊎ (k < length vs) → cut {W = flash} (Units k) (ran vs x) m .state ≡ apply (take k vs) m
+      go (inl c) = let d : cost flash vs ≤ k = omega (arith, cost-flash vs) in rw (leb-yes d) (ap (λ (u : List FlashUnit). apply u m) (sym (take-all k vs c)))
+      go (inr c) = let d : k < cost flash vs = omega (arith, cost-flash vs) in rw (leb-no d) (ap (λ (u : List FlashUnit). apply u m) (prefix-flash k vs))
+
+  pub power-cut : run Absent o m ≡ record { answer = done x; fuse = Absent; state = apply vs m }
+  unfolding run
+  power-cut = ap (λ (r : Run flash A). cut {W = flash} Absent r m) e
+
+  -- on another image with the same units the same answer and fuse
+  same-cut : (left : List ℕ) → o left ≡ ran vs x → (k : ℕ)
+      → run (Units k) o left ≡ record { answer = run (Units k) o m .answer; fuse = run (Units k) o m .fuse; state = run (Units k) o left .state }
+  unfolding run
+  same-cut left f k =
+      ap (λ (r : Run flash A). record { answer = cut {W = flash} (Units k) r left .answer; fuse = cut {W = flash} (Units k) r left .fuse; state = cut {W = flash} (Units k) (o left) left .state }) f
+      ∙ go (leb (cost flash vs) k)
+      ∙ ap (λ (r : Run flash A). record { answer = cut {W = flash} (Units k) r m .answer; fuse = cut {W = flash} (Units k) r m .fuse; state = cut {W = flash} (Units k) (o left) left .state }) (sym e)
+    where
+      go : (b : Bool) → _≡_ {A = End A} (record { answer = cutBy {W = flash} b k (ran vs x) left .answer; fuse = cutBy {W = flash} b k (ran vs x) left .fuse; state = cut {W = flash} (Units k) (o left) left .state })
+          (record { answer = cutBy {W = flash} b k (ran vs x) m .answer; fuse = cutBy {W = flash} b k (ran vs x) m .fuse; state = cut {W = flash} (Units k) (o left) left .state })
+      go true = refl
+      go false = refl
+
+-- ---- an unfinished object of the same type can be allocated over; a finished one cannot
+
+over-begun : (t : ObjectType) → allocatableOf t (Allocated t Untrusted) ≡ done tt
+unfolding allocatableOf
+over-begun t = rw (eq-eqb (typeByte t) (typeByte t) refl)
+
+over-free : (t : ObjectType) → allocatableOf t Free ≡ done tt
+unfolding allocatableOf
+over-free t = refl
+
+over-finished : (t : ObjectType) → allocatableOf t (Allocated t Valid) ≡ refused 4
+unfolding allocatableOf
+over-finished t = refl
+
+-- so a move of a finished object to where one of its type is finished gives 4, and stores nothing
+module _ (g : Geometry) (h : ObjectHeader) (to : ObjectLocation) (t : ObjectType) (n : ℕ) (m : List ℕ) (source : sourceAt g h m ≡ done (record { kind = t; size = n })) (there : stateAt g to m ≡ done (Allocated t Valid))
+    (f : Fuse) where
+  allocate-refused : run f (allocate g to t) m ≡ record { answer = refused 4; fuse = f; state = m }
+  unfolding allocate
+  allocate-refused =
+      ask-on {W = flash} f (stateAt g to) (λ st. ask (λ _. allocatableOf t st) >> (write g (to .block) (to .offset) (typeByte t ∷ []) >> give (freshOf g to t))) m there
+      ∙ ask-stop {W = flash} f (λ _. allocatableOf t (Allocated t Valid)) (λ _. write g (to .block) (to .offset) (typeByte t ∷ []) >> give (freshOf g to t)) m (over-finished t)
+
+  copy-refused : run f (copyObject g h to) m ≡ record { answer = refused 4; fuse = f; state = m }
+  unfolding copyObject
+  copy-refused =
+      ask-on {W = flash} f (sourceAt g h) (λ src. allocate g to (src .kind) >>= λ w. copying (turnsOf (src .size)) g (h .location .block) (payloadAt g h) (src .size) w >>= λ y. finalize g y >>= λ z. give (z .object)) m source
+      ∙ run-bind f (allocate g to t) (λ w. copying (turnsOf n) g (h .location .block) (payloadAt g h) n w >>= λ y. finalize g y >>= λ z. give (z .object)) m
+      ∙ ap (λ (e : End ObjectWriter). next e (λ w u i. run u (copying (turnsOf n) g (h .location .block) (payloadAt g h) n w >>= λ y. finalize g y >>= λ z. give (z .object)) i)) allocate-refused
+
+  move-refused : run f (moveObject g h to) m ≡ record { answer = refused 4; fuse = f; state = m }
+  unfolding moveObject
+  move-refused =
+      run-bind f (copyObject g h to) (λ new. setState g h Deleted >> give new) m
+      ∙ ap (λ (e : End ObjectHeader). next e (λ new u i. run u (setState g h Deleted >> give new) i)) copy-refused
+
+module _ (g : Geometry) (h : ObjectHeader) (to : ObjectLocation) (t : ObjectType) (pay img : List ℕ) (r : Ready g h to t pay img) where
+  abbrev gr : Granularity
+  gr = g .granularity
+
+  abbrev p : ℕ
+  p = addressOf g (h .location)
+
+  abbrev q : ℕ
+  q = addressOf g to
+
+  abbrev units : List FlashUnit
+  units = us g h to t pay img r
+
+  abbrev n : ℕ
+  n = N g h to t pay img r
+
+  all-program : All Programs units
+  all-program =
+      All-append Programs (before gr (g .s) t pay q) (markUnits gr q ++ deleteUnits gr p)
+      (All-append Programs (typeUnits gr t q) (payUnits gr (g .s) pay q ++ sizeUnits gr (g .s) (length pay) q) (store-programs (widthOf gr) q (typeByte t ∷ []))
+      (All-append Programs (payUnits gr (g .s) pay q) (sizeUnits gr (g .s) (length pay) q) (store-programs (widthOf gr) (q + header gr (g .s)) pay)
+      (store-programs (widthOf gr) (q + sizeAt gr) (bytes (g .s) (length pay)))))
+      (All-append Programs (markUnits gr q) (deleteUnits gr p) (store-programs (widthOf gr) (q + finishAt gr) (finishMark gr ∷ [])) (store-programs (widthOf gr) (p + deleteAt gr) (0 ∷ [])))
+
+  abbrev at-cut : ℕ → List ℕ
+  at-cut k = apply (take k (us g h to t pay img r)) img
+
+  -- ---- before the mark: the original's header and payload are as they were, and the destination is free or begun
+
+  able-begun : (k : ℕ) → Able g h to t pay (apply (take k (before gr (g .s) t pay q)) img)
+  able-begun k = go (copy-before gr (g .s) t p q (h .size) pay img (r .given) k)
+    where
+      on : (st : CompositeObjectState) → stateSeen gr q (apply (take k (before gr (g .s) t pay q)) img) ≡ done st → allocatableOf t st ≡ done tt → Able g h to t pay (apply (take k (before gr (g .s) t pay q)) img)
+      on st seen al =
+          let o : Stands gr (g .s) p (Allocated t Valid) (h .size) pay (apply (take k (before gr (g .s) t pay q)) img) = original-before gr (g .s) t p q (h .size) pay img (r .given) k in
+          able-on g h to t pay img (apply (take k (before gr (g .s) t pay q)) img) r (length-apply (take k (before gr (g .s) t pay q)) img)
+          (original-whole g h to t pay img r (take k (before gr (g .s) t pay q)) o .header) (o .bytes-are) st seen al
+
+      go : (stateSeen gr q (apply (take k (before gr (g .s) t pay q)) img) ≡ done Free) ⊎ (stateSeen gr q (apply (take k (before gr (g .s) t pay q)) img) ≡ done (Allocated t Untrusted))
+          → Able g h to t pay (apply (take k (before gr (g .s) t pay q)) img)
+      go (inl e) = on Free e (over-free t)
+      go (inr e) = on (Allocated t Untrusted) e (over-begun t)
+
+  -- so the second move stores the units of the first
+  traced-again : (k : ℕ) → k ≤ n → moveObject g h to (at-cut k) ≡ ran units (copyOf g h to)
+  traced-again k c =
+      move-ran g h to t pay (at-cut k) (subst (λ (vs : List FlashUnit). Able g h to t pay (apply vs img)) (sym (cut-before g h to t pay img r k c)) (able-begun k))
+      ∙ ap (ran units) (copy-is g h to t pay img r)
+
+  left-is : (k : ℕ) → leftBy g h to img k ≡ at-cut k
+  left-is k = state-cut (moveObject g h to) units (copyOf g h to) img (move-traced g h to t pay img r) k
+
+  -- units that follow a part of themselves end where they end at once
+  ends-alike : (k : ℕ) → k ≤ n → apply units (at-cut k) ≡ apply units img
+  ends-alike k c =
+      ap (λ (vs : List FlashUnit). apply vs (at-cut k)) (sym (take-all (length units) units (omega arith)))
+      ∙ cut-twice units k (length units) img all-program
+      ∙ ap (λ (vs : List FlashUnit). apply vs img) (take-all (max k (length units)) units (omega arith))
+
+  resumes-at : (k : ℕ) → k ≤ n → (left : List ℕ) → left ≡ at-cut k → run Absent (moveObject g h to) left ≡ run Absent (moveObject g h to) img
+  resumes-at k c left e =
+      ap (run Absent (moveObject g h to)) e
+      ∙ power-cut (moveObject g h to) units (copyOf g h to) (at-cut k) (traced-again k c)
+      ∙ ap (λ (m : List ℕ). record { answer = done (copyOf g h to); fuse = Absent; state = m }) (ends-alike k c)
+      ∙ sym (power-cut (moveObject g h to) units (copyOf g h to) img (move-traced g h to t pay img r))
+
+  cut-again-at : (k : ℕ) → k ≤ n → (left : List ℕ) → left ≡ at-cut k → (i : ℕ) → run (Units i) (moveObject g h to) left
+      ≡ record { answer = run (Units i) (moveObject g h to) img .answer; fuse = run (Units i) (moveObject g h to) img .fuse; state = leftBy g h to img (max k i) }
+  cut-again-at k c left e i =
+      ap (run (Units i) (moveObject g h to)) e
+      ∙ same-cut (moveObject g h to) units (copyOf g h to) img (move-traced g h to t pay img r) (at-cut k) (traced-again k c) i
+      ∙ ap (λ (m : List ℕ). record { answer = run (Units i) (moveObject g h to) img .answer; fuse = run (Units i) (moveObject g h to) img .fuse; state = m })
+      (state-cut (moveObject g h to) units (copyOf g h to) (at-cut k) (traced-again k c) i ∙ cut-twice units k i img all-program ∙ sym (left-is (max k i)))
+
+  pub resumes : (k : ℕ) → k ≤ unitsTo g h → Resumes g h to img k
+  resumes k c =
+      let d : k ≤ n = omega (arith, units-are g h to t pay img r) in
+      record { with-power = resumes-at k d (leftBy g h to img k) (left-is k); cut-again = cut-again-at k d (leftBy g h to img k) (left-is k) }
+
+  -- ---- between the marks
+
+  abbrev both : List ℕ
+  both = apply (all-copied g h to t pay img r) img
+
+  refuses-both : (f : Fuse) → run f (moveObject g h to) both ≡ record { answer = refused 4; fuse = f; state = both }
+  refuses-both =
+      move-refused g h to t (length pay) both
+      (source-of g h t (length pay) both (original-whole g h to t pay img r (all-copied g h to t pay img r) (original-between gr (g .s) t p q (h .size) pay img (r .given)) .header) (r .finished) (r .payload))
+      (state-read g to both (ap (checkOf g) (length-apply (all-copied g h to t pay img r) img) ∙ r .fine) (r .block-to)
+      (omega (arith, laid gr (g .s) (length pay) (r .given .width-3), r .in-block-to)) ∙ copy-between gr (g .s) t p q (h .size) pay img (r .given) .state)
+
+  deleted-both : run Absent (setState g h Deleted) both ≡ record { answer = done (goneOf h t); fuse = Absent; state = run Absent (moveObject g h to) img .state }
+  deleted-both =
+      power-cut (setState g h Deleted) (deleteUnits gr p) (goneOf h t) both (delete-ran g h to t pay img (able g h to t pay img r) both (length-apply (all-copied g h to t pay img r) img))
+      ∙ ap (λ (m : List ℕ). record { answer = done (goneOf h t); fuse = Absent; state = m })
+      (sym (apply-append (all-copied g h to t pay img r) (deleteUnits gr p) img) ∙ ap (λ (vs : List FlashUnit). apply vs img) (sym (as-copied g h to t pay img r))
+      ∙ ap (λ (e : End ObjectHeader). e .state) (sym (power-cut (moveObject g h to) units (copyOf g h to) img (move-traced g h to t pay img r))))
+
+  pub completes : Completes g h to t img (leftBy g h to img (unitsTo g h + 1))
+  completes =
+      let e : both ≡ leftBy g h to img (unitsTo g h + 1) =
+      ap (λ (vs : List FlashUnit). apply vs img) (sym (cut-between g h to t pay img r (unitsTo g h + 1) (omega (arith, units-are g h to t pay img r)))) ∙ sym (left-is (unitsTo g h + 1)) in
+      subst (λ (m : List ℕ). Completes g h to t img m) e (record { refuses = refuses-both; deleted = deleted-both })
+
+pub again : Again
+unfolding Again
+again g h to room t img v =
+    let r : Ready g h to t (payloadIn g h img) img = ready g h to room t img v in (
+      λ k c. resumes g h to t (payloadIn g h img) img r k c,
+      completes g h to t (payloadIn g h img) img r,
+    )

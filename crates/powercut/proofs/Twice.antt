@@ -1,0 +1,132 @@
+-- Programming is an AND, byte for byte: it may be done in any order, and twice is as good as once. With the width as a parameter.
+use mathlib.Core.Path.{_≡_, refl, sym, ap, ap₂, _∙_}
+use mathlib.Core.Logic.{_⊎_, inl, inr}
+use mathlib.Core.List.{List, [], _∷_, _++_}
+use Prim.Native.Nat.{ℕ, zero, suc, _+_, _*_, _/_, _%_, _≤_, _<_, min, max}
+use native.Mathlib.Omega.{arith}
+use lib.ListN.{length, take, drop, take-append-drop}
+use lib.Seq.{take-take}
+use lib.Bits.{bitAnd, and-step, and-self, and-comm}
+use Rattle.medium.specs.Granularity.{unitsIn}
+use Rattle.medium.specs.Units.{FlashUnit, programmed, erased, over, program, padded, words, unitsOf}
+use Rattle.medium.specs.Operation.{apply}
+use Rattle.medium.proofs.Runs.{apply-append, leb-is}
+use Rattle.medium.proofs.Bytes.{All, All-append, All-take}
+
+-- ---- AND
+
+-- the digits of an AND
+halves : (a b : ℕ) → (bitAnd a b / 2 ≡ bitAnd (a / 2) (b / 2)) × (bitAnd a b % 2 ≡ min (a % 2) (b % 2))
+halves a b = let e = and-step a b in (omega arith, omega arith)
+
+and-assoc-by : (n a b c : ℕ) → a ≤ n → bitAnd (bitAnd a b) c ≡ bitAnd a (bitAnd b c)
+and-assoc-by zero zero b c h = refl
+and-assoc-by zero (suc a) b c h = absurd (omega arith)
+and-assoc-by (suc n) zero b c h = refl
+and-assoc-by (suc n) (suc a) b c h =
+    let i : bitAnd (bitAnd (suc a / 2) (b / 2)) (c / 2) ≡ bitAnd (suc a / 2) (bitAnd (b / 2) (c / 2)) = and-assoc-by n (suc a / 2) (b / 2) (c / 2) (omega arith) in
+    let m : min (min (suc a % 2) (b % 2)) (c % 2) ≡ min (suc a % 2) (min (b % 2) (c % 2)) = omega arith in
+    and-step (bitAnd (suc a) b) c
+    ∙ ap₂ (λ (x y : ℕ). bitAnd x (c / 2) * 2 + min y (c % 2)) (halves (suc a) b .0) (halves (suc a) b .1)
+    ∙ ap₂ (λ (x y : ℕ). x * 2 + y) i m
+    ∙ ap₂ (λ (x y : ℕ). bitAnd (suc a / 2) x * 2 + min (suc a % 2) y) (sym (halves b c .0)) (sym (halves b c .1))
+    ∙ sym (and-step (suc a) (bitAnd b c))
+
+pub and-assoc : (a b c : ℕ) → bitAnd (bitAnd a b) c ≡ bitAnd a (bitAnd b c)
+and-assoc a b c = and-assoc-by a a b c (omega arith)
+
+-- two in either order, and one twice
+pub and-swap : (x b d : ℕ) → bitAnd (bitAnd x b) d ≡ bitAnd (bitAnd x d) b
+and-swap x b d = and-assoc x b d ∙ ap (bitAnd x) (and-comm b d) ∙ sym (and-assoc x d b)
+
+pub and-twice : (x b : ℕ) → bitAnd (bitAnd x b) b ≡ bitAnd x b
+and-twice x b = and-assoc x b b ∙ ap (bitAnd x) (and-self b)
+
+-- ---- one store of bytes
+
+over-swap : (img bs ds : List ℕ) → over (over img bs) ds ≡ over (over img ds) bs
+over-swap img [] ds = refl
+over-swap [] (b ∷ bs) [] = refl
+over-swap [] (b ∷ bs) (d ∷ ds) = refl
+over-swap (x ∷ xs) (b ∷ bs) [] = refl
+over-swap (x ∷ xs) (b ∷ bs) (d ∷ ds) = ap₂ (λ (y : ℕ) (ys : List ℕ). y ∷ ys) (and-swap x b d) (over-swap xs bs ds)
+
+over-twice : (img bs : List ℕ) → over (over img bs) bs ≡ over img bs
+over-twice img [] = refl
+over-twice [] (b ∷ bs) = refl
+over-twice (x ∷ xs) (b ∷ bs) = ap₂ (λ (y : ℕ) (ys : List ℕ). y ∷ ys) (and-twice x b) (over-twice xs bs)
+
+over-program : (c : ℕ) (img bs ds : List ℕ) → over (program c ds img) bs ≡ program c ds (over img bs)
+over-program zero img bs ds = over-swap img ds bs
+over-program (suc c) img [] ds = refl
+over-program (suc c) [] (b ∷ bs) ds = refl
+over-program (suc c) (x ∷ xs) (b ∷ bs) ds = ap (λ (ys : List ℕ). bitAnd x b ∷ ys) (over-program c xs bs ds)
+
+program-swap : (a c : ℕ) (bs ds img : List ℕ) → program a bs (program c ds img) ≡ program c ds (program a bs img)
+program-swap zero c bs ds img = over-program c img bs ds
+program-swap (suc a) zero bs ds img = sym (over-program (suc a) img ds bs)
+program-swap (suc a) (suc c) bs ds [] = refl
+program-swap (suc a) (suc c) bs ds (x ∷ xs) = ap (λ (ys : List ℕ). x ∷ ys) (program-swap a c bs ds xs)
+
+program-twice : (a : ℕ) (bs img : List ℕ) → program a bs (program a bs img) ≡ program a bs img
+program-twice zero bs img = over-twice img bs
+program-twice (suc a) bs [] = refl
+program-twice (suc a) bs (x ∷ xs) = ap (λ (ys : List ℕ). x ∷ ys) (program-twice a bs xs)
+
+-- ---- units that program, and erase nothing
+
+abbrev pub Programs : FlashUnit → Type 0
+Programs (programmed a bs) = Unit {0}
+Programs (erased a n) = ⊥
+
+words-program : (n w a : ℕ) (bs : List ℕ) → All Programs (words n w a bs)
+words-program zero w a bs = tt
+words-program (suc n) w a bs = (tt, words-program n w (a + w) (drop w bs))
+
+-- those of a store
+pub store-programs : (w a : ℕ) (bs : List ℕ) → All Programs (unitsOf w a bs)
+store-programs w a bs = words-program (unitsIn w (length bs)) w a (padded w bs)
+
+apply-program : (a : ℕ) (bs : List ℕ) (us : List FlashUnit) (img : List ℕ) → All Programs us → apply us (program a bs img) ≡ program a bs (apply us img)
+apply-program a bs [] img h = refl
+apply-program a bs (programmed c ds ∷ us) img h =
+    ap (apply us) (program-swap c a ds bs img) ∙ apply-program a bs us (program c ds img) (h .1)
+apply-program a bs (erased c n ∷ us) img h = absurd (h .0)
+
+-- two lists in either order
+pub apply-swap : (us vs : List FlashUnit) (img : List ℕ) → All Programs us → All Programs vs → apply us (apply vs img) ≡ apply vs (apply us img)
+apply-swap us [] img h k = refl
+apply-swap us (programmed a bs ∷ vs) img h k = apply-swap us vs (program a bs img) h (k .1) ∙ ap (apply vs) (apply-program a bs us img h)
+apply-swap us (erased a n ∷ vs) img h k = absurd (k .0)
+
+-- a list twice is as good as once
+pub apply-twice : (us : List FlashUnit) (img : List ℕ) → All Programs us → apply us (apply us img) ≡ apply us img
+apply-twice [] img h = refl
+apply-twice (programmed a bs ∷ us) img h =
+    ap (apply us) (sym (apply-program a bs us (program a bs img) (h .1)) ∙ ap (apply us) (program-twice a bs img))
+    ∙ apply-twice us (program a bs img) (h .1)
+apply-twice (erased a n ∷ us) img h = absurd (h .0)
+
+-- the first units and the rest, over an image that has some of the first
+apply-prefix : (us vs : List FlashUnit) (img : List ℕ) → All Programs us → apply (us ++ vs) (apply us img) ≡ apply (us ++ vs) img
+apply-prefix us vs img h = apply-append us vs (apply us img) ∙ ap (apply vs) (apply-twice us img h) ∙ sym (apply-append us vs img)
+
+-- THE LAW: a list that is cut twice leaves what it leaves when it is cut once, at the later of the two
+pub cut-twice : (us : List FlashUnit) (k n : ℕ) (img : List ℕ) → All Programs us → apply (take n us) (apply (take k us) img) ≡ apply (take (max k n) us) img
+cut-twice us k n img h = go (leb-is k n)
+  where
+    first : (i j : ℕ) → i ≤ j → take j us ≡ take i us ++ drop i (take j us)
+    first i j c = sym (take-append-drop i (take j us)) ∙ ap (λ (x : List FlashUnit). x ++ drop i (take j us)) (take-take i j us c)
+
+    later : (i j : ℕ) → i ≤ j → apply (take j us) (apply (take i us) img) ≡ apply (take j us) img
+    later i j c =
+        ap (λ (x : List FlashUnit). apply x (apply (take i us) img)) (first i j c)
+        ∙ apply-prefix (take i us) (drop i (take j us)) img (All-take Programs i us h)
+        ∙ ap (λ (x : List FlashUnit). apply x img) (sym (first i j c))
+
+    go : (k ≤ n) ⊎ (n < k) → apply (take n us) (apply (take k us) img) ≡ apply (take (max k n) us) img
+    go (inl c) = let e : n ≡ max k n = omega arith in later k n c ∙ ap (λ (i : ℕ). apply (take i us) img) e
+    go (inr c) =
+        let e : k ≡ max k n = omega arith in
+        apply-swap (take n us) (take k us) img (All-take Programs n us h) (All-take Programs k us h)
+        ∙ later n k (omega arith) ∙ ap (λ (i : ℕ). apply (take i us) img) e
