@@ -4,3 +4,4 @@ pub mod Answers
 pub mod Again
 pub mod Listed
 pub mod Call
+pub mod Rows

@@ -1,0 +1,159 @@
+-- Computed rows, over two blocks of 64 bytes: row 11's move at each cut, why each condition of the demand is there, and which cuts leave a
+-- block that cannot be listed. Each image is a smallest one.
+use mathlib.Core.Path.{_≡_, refl}
+use mathlib.Core.Bool.{Bool, true, false, not, _&&_, _||_}
+use mathlib.Core.List.{List, [], _∷_, _++_}
+use Prim.Native.Nat.{ℕ, zero, suc, _+_, _-_, _%_}
+use lib.ListN.{length, getD, replicate}
+use lib.Dec.{leb, ltb, eqb}
+use lib.Pow.{areBytes}
+use Rattle.medium.specs.declared.granularity.Granularity.the-variants.{Bit}
+use Rattle.medium.specs.declared.geometry.Geometry.{Geometry}
+use Rattle.medium.specs.declared.fuse.Fuse.{Fuse}
+use Rattle.medium.specs.declared.fuse.Fuse.the-variants.{Absent, Units}
+use Rattle.medium.specs.Granularity.{pick, widthOf}
+use Rattle.medium.specs.Geometry.{geometryOk, admit, checkOf}
+use Rattle.medium.specs.Operation.{Answer, done, refused, _>>=_, ask, test, putting, run, numberOf}
+use Rattle.medium.specs.Medium.{part, readable, writable, readAt, write}
+use Rattle.objects.specs.declared.types.ObjectType.the-variants.{FileData}
+use Rattle.objects.specs.declared.state.ObjectDataState.the-variants.{Valid}
+use Rattle.objects.specs.declared.state.CompositeObjectState.the-variants.{Allocated}
+use Rattle.objects.specs.declared.location.ObjectLocation.{ObjectLocation}
+use Rattle.objects.specs.declared.header.ObjectHeader.{ObjectHeader}
+use Rattle.objects.specs.Types.{typeOf, markOf, marksOf, rankOf, stateIn}
+use Rattle.objects.specs.Header.{stateAt, sizedAt, headerAt, payloadOf, allocatableOf, marking, setState, sizableOf, setPayloadSize}
+use Rattle.objects.specs.Info.{infoAt, totalOf, spanOf}
+use Rattle.objects.specs.Reader.{readerAt, remainingOf, leftOf, readSome}
+use Rattle.objects.specs.Listing.{Stop, end, free, broken, nextOf, listFrom, listing}
+use Rattle.writer.specs.Writer.{soundOf, allocate, appendable, putBytes, append, finishable, flush, close, finalize}
+use Rattle.writer.specs.Moving.{sourceAt, chunk, copying, copyObject, moveObject}
+use Rattle.powercut.specs.Demand.{addressOf, payloadIn}
+use Rattle.powercut.specs.Listed.{same, payloadRead, isPayload, isCopy, copiesBefore, copiesAfter}
+use Rattle.powercut.specs.Again.{leftBy}
+
+abbrev all : List Bool → Bool
+all [] = true
+all (b ∷ bs) = b && all bs
+
+-- ---- A's widths, with two blocks of 64 bytes
+
+abbrev small : Geometry
+small = record { granularity = Bit; s = 1; c = 1; size = 64; count = 2 }
+
+abbrev place : ℕ → ℕ → ObjectLocation
+place b o = record { block = b; offset = o }
+
+-- a finished data object of n bytes at offset 8 of block 0
+abbrev object : ℕ → ObjectHeader
+object n = record { state = Allocated FileData Valid; size = n; location = place 0 8 }
+
+-- a block with some bytes at an offset, and FF
+abbrev block : ℕ → List ℕ → List ℕ
+block o bs = replicate o 255 ++ bs ++ replicate (64 - (o + length bs)) 255
+
+abbrev abc : List ℕ
+abc = 0x8E ∷ 0xF0 ∷ 0x03 ∷ 0x41 ∷ 0x42 ∷ 0x43 ∷ []
+
+-- ---- row 11's move under a fuse: its answer, the units left, the original's mark, and the seven bytes from the destination on
+
+abbrev unitsLeft : Fuse → ℕ
+unitsLeft Absent = 0
+unitsLeft (Units n) = n
+
+abbrev moved : ℕ → ℕ → ℕ → ℕ → List ℕ → Bool
+moved k number units mark bytes =
+    let e = run (Units k) (moveObject small (object 3) (place 1 8)) (block 8 abc ++ block 8 []) in
+    eqb (numberOf (e .answer)) number && eqb (unitsLeft (e .fuse)) units && eqb (getD (e .state) 9 0) mark && same (part 72 7 (e .state)) bytes
+
+-- ---- the demand's conditions as tests, in its order, numbered from 0
+
+-- all FF
+abbrev blank : List ℕ → Bool
+blank [] = true
+blank (b ∷ bs) = eqb b 255 && blank bs
+
+-- the header of a finished object, as it is read
+abbrev sameHeader : Answer ObjectHeader → ObjectHeader → Bool
+sameHeader (done k) h = eqb (rankOf (k .state)) 2 && eqb (k .size) (h .size)
+sameHeader (refused n) h = false
+
+abbrev conditions : ObjectHeader → ObjectLocation → ℕ → List ℕ → List Bool
+conditions h to room img =
+    let p = addressOf small (h .location) in
+    let q = addressOf small to in
+    eqb (checkOf small (length img)) 0 ∷ areBytes img ∷ sameHeader (headerAt small (h .location) img) h
+    ∷ eqb (h .location .offset % widthOf (small .granularity)) 0
+    ∷ leb (h .location .offset + totalOf (small .granularity) (small .s) h) (small .size)
+    ∷ ltb (to .block) (small .count) ∷ leb (to .offset + room) (small .size) ∷ blank (part q room img) ∷ eqb (to .offset % widthOf (small .granularity)) 0
+    ∷ leb (spanOf (small .granularity) (small .s) h) room
+    ∷ (leb (p + totalOf (small .granularity) (small .s) h) q || leb (q + room) p)
+    ∷ []
+
+-- the numbers of those that fail
+abbrev failing : ℕ → List Bool → List ℕ
+failing i [] = []
+failing i (b ∷ bs) = pick b (failing (suc i) bs) (i ∷ failing (suc i) bs)
+
+-- the payload is read at neither place after k units
+abbrev gone : ObjectHeader → ObjectLocation → List ℕ → ℕ → Bool
+gone h to img k =
+    let m = leftBy small h to img k in
+    not (isPayload (payloadRead small (h .location) m) (payloadIn small h img)) && not (isPayload (payloadRead small to m) (payloadIn small h img))
+
+-- with one condition failing, the object is gone after k units
+abbrev needed : ℕ → ObjectHeader → ObjectLocation → ℕ → List ℕ → ℕ → Bool
+needed i h to room img k = same (failing 0 (conditions h to room img)) (i ∷ []) && gone h to img k
+
+-- ---- listings of block 1 after a move to it
+
+abbrev stopNumber : Stop → ℕ
+stopNumber end = 0
+stopNumber free = 0
+stopNumber (broken n) = n
+
+-- after each number of units below n, the last first
+abbrev stops : ObjectHeader → ObjectLocation → List ℕ → ℕ → List ℕ
+stops h to img zero = []
+stops h to img (suc n) = stopNumber (listing small (to .block) (leftBy small h to img n) .stop) ∷ stops h to img n
+
+abbrev isEnd : Stop → Bool
+isEnd end = true
+isEnd free = false
+isEnd (broken n) = false
+
+-- an empty object moved to where a listing stops at its block's end, behind an object of 50 bytes: it is listed before the move, and not after
+abbrev empty : List ℕ
+empty = block 8 (0x8E ∷ 0xF0 ∷ 0x00 ∷ []) ++ block 8 (0x8E ∷ 0xF0 ∷ 0x32 ∷ replicate 50 0x41)
+
+abbrev table : List Bool
+table =
+    -- type, payload, size, finish mark, delete mark: one unit each byte, and what is not used is left
+    moved 0 8 0 0xF0 (0xFF ∷ 0xFF ∷ 0xFF ∷ 0xFF ∷ 0xFF ∷ 0xFF ∷ 0xFF ∷ [])
+    ∷ moved 1 8 0 0xF0 (0x8E ∷ 0xFF ∷ 0xFF ∷ 0xFF ∷ 0xFF ∷ 0xFF ∷ 0xFF ∷ [])
+    ∷ moved 2 8 0 0xF0 (0x8E ∷ 0xFF ∷ 0xFF ∷ 0x41 ∷ 0xFF ∷ 0xFF ∷ 0xFF ∷ [])
+    ∷ moved 3 8 0 0xF0 (0x8E ∷ 0xFF ∷ 0xFF ∷ 0x41 ∷ 0x42 ∷ 0xFF ∷ 0xFF ∷ [])
+    ∷ moved 4 8 0 0xF0 (0x8E ∷ 0xFF ∷ 0xFF ∷ 0x41 ∷ 0x42 ∷ 0x43 ∷ 0xFF ∷ [])
+    ∷ moved 5 8 0 0xF0 (0x8E ∷ 0xFF ∷ 0x03 ∷ 0x41 ∷ 0x42 ∷ 0x43 ∷ 0xFF ∷ [])
+    ∷ moved 6 8 0 0xF0 (0x8E ∷ 0xF0 ∷ 0x03 ∷ 0x41 ∷ 0x42 ∷ 0x43 ∷ 0xFF ∷ [])
+    ∷ moved 7 0 0 0x00 (0x8E ∷ 0xF0 ∷ 0x03 ∷ 0x41 ∷ 0x42 ∷ 0x43 ∷ 0xFF ∷ [])
+    ∷ moved 9 0 2 0x00 (0x8E ∷ 0xF0 ∷ 0x03 ∷ 0x41 ∷ 0x42 ∷ 0x43 ∷ 0xFF ∷ [])
+    -- "erased": a byte of the destination is 00, and the copy reads otherwise
+    ∷ needed 7 (object 3) (place 1 8) 6 (block 8 abc ++ block 12 (0x00 ∷ [])) 7
+    -- "large enough": an object stands where the copy's payload is to go
+    ∷ needed 9 (object 3) (place 1 8) 3 (block 8 abc ++ block 11 (0x8E ∷ 0xF0 ∷ 0x00 ∷ [])) 7
+    -- "apart from the object": the destination lies in the original's own payload, which is all FF, so that its first unit changes it
+    ∷ needed 10 (object 3) (place 0 11) 6 (block 8 (0x8E ∷ 0xF0 ∷ 0x03 ∷ []) ++ block 8 []) 1
+    -- the free end of a block is not its end
+    ∷ same (failing 0 (conditions (object 0) (place 1 61) 3 empty)) []
+    ∷ isEnd (listing small 1 empty .stop) ∷ eqb (listing small 1 empty .last) 61
+    ∷ eqb (copiesBefore small (object 0) (place 1 61) FileData empty) 1 ∷ eqb (copiesAfter small (object 0) (place 1 61) FileData empty Absent) 0
+    -- the listing of the destination's block is refused after units 2, 3 and 4 of 7
+    ∷ same (stops (object 3) (place 1 8) (block 8 abc ++ block 8 []) 8) (0 ∷ 0 ∷ 0 ∷ 2 ∷ 2 ∷ 2 ∷ 0 ∷ 0 ∷ [])
+    -- and at no cut where the payload begins with FF, or where no second header fits
+    ∷ same (stops (object 3) (place 1 8) (block 8 (0x8E ∷ 0xF0 ∷ 0x03 ∷ 0xFF ∷ 0x42 ∷ 0x43 ∷ []) ++ block 8 []) 8) (0 ∷ 0 ∷ 0 ∷ 0 ∷ 0 ∷ 0 ∷ 0 ∷ 0 ∷ [])
+    ∷ same (stops (object 3) (place 1 58) (block 8 abc ++ block 8 (0x8E ∷ 0xF0 ∷ 0x2F ∷ replicate 47 0x41)) 8) (0 ∷ 0 ∷ 0 ∷ 0 ∷ 0 ∷ 0 ∷ 0 ∷ 0 ∷ [])
+    ∷ []
+
+pub rows : all table ≡ true
+unfolding geometryOk admit _>>=_ ask test putting run readable writable readAt write typeOf markOf marksOf stateIn stateAt sizedAt headerAt payloadOf totalOf allocatableOf marking setState sizableOf setPayloadSize infoAt nextOf listFrom listing readerAt remainingOf leftOf readSome soundOf allocate appendable putBytes append finishable flush close finalize sourceAt chunk copying copyObject moveObject payloadRead isCopy
+rows = refl
