@@ -3,6 +3,9 @@
 
 use harness::{case::Case, geometry::Geometry, model, op::Op, oracle, outcome::Outcome, rattle};
 
+pub mod store;
+
+#[derive(Clone)]
 pub struct Bench {
     pub side: &'static str,
     ask: fn(&Case) -> Option<Outcome>,
@@ -22,7 +25,28 @@ pub fn benches(geometry: Geometry) -> Vec<Bench> {
     sides.into_iter().map(bench).collect()
 }
 
+/// The benches of the sides that answer for this geometry.
+pub fn sides(geometry: Geometry) -> Vec<Bench> {
+    let there = |bench: &Bench| bench.clone().call(Op::ScanBlock, &[0], &[], &[]).is_some();
+    benches(geometry).into_iter().filter(there).collect()
+}
+
 impl Bench {
+    /// Calls one function of a side that is there: what it showed, or its refusal.
+    pub fn ask(&mut self, op: Op, args: &[u32], array: &[u32], bytes: &[u8]) -> Result<Outcome, u8> {
+        let outcome = self.call(op, args, array, bytes).expect("this side answers");
+        if outcome.answer == 0 {
+            Ok(outcome)
+        } else {
+            Err(outcome.answer)
+        }
+    }
+
+    /// The answer's number, of a side that is there.
+    pub fn number(&mut self, op: Op, args: &[u32], array: &[u32], bytes: &[u8]) -> u8 {
+        self.ask(op, args, array, bytes).err().unwrap_or(0)
+    }
+
     /// Calls one function and keeps image and fuse; none where this side has not got it.
     pub fn call(&mut self, op: Op, args: &[u32], array: &[u32], bytes: &[u8]) -> Option<Outcome> {
         let mut case = Case::of(op, self.geometry);

@@ -1,0 +1,3 @@
+#![allow(async_fn_in_trait)]
+
+pub mod medium;

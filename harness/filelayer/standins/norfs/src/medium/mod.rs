@@ -1,0 +1,1 @@
+pub use norfs_driver::medium::{StorageMedium, WriteGranularity};
