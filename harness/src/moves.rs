@@ -1,9 +1,11 @@
 //! Moves at every fuse, and the promise about cuts checked on the text's and the library's own results: before the
 //! copy's finish mark only the original reads as finished, whole; between the marks both, equal; after the delete mark
-//! only the copy; no byte changes outside the destination's span and the original's state mark.
+//! only the copy; no byte changes outside the destination's span and the original's state mark. And the way out: the same
+//! move again ends as the uncut one from every cut before the finish mark; between the marks it gives 4 and stores
+//! nothing, and deleting the original ends so.
 
 use crate::{
-    answer::DONE,
+    answer::{DONE, INVALID_OPERATION},
     case::Case,
     cases::{images, units},
     compare::judge,
@@ -53,6 +55,7 @@ fn overlap(g: Geometry, header: Header, to: u32, at: u32) -> bool {
 /// One move at every fuse: compared as any case, then its phase checked on each side's own result.
 pub fn every_fuse(case: &Case, seen: &mut Seen) -> Result<(), String> {
     let units = units(case);
+    let whole = agreed(case).image;
     seen.moves += 1;
     for fuse in 0..=units + 1 {
         let cut = Case { fuse: Some(fuse), ..case.clone() };
@@ -70,8 +73,24 @@ pub fn every_fuse(case: &Case, seen: &mut Seen) -> Result<(), String> {
                 return Err(format!("{side}, fuse {fuse} of {units}: {broken}\n{}\n{}", cut.line(), judged.show(&cut)));
             }
         }
+        if !mended(case, &judged.model.image, phase, &whole) {
+            return Err(format!("fuse {fuse} of {units}: the way out does not end as the uncut move\n{}", cut.line()));
+        }
     }
     Ok(())
+}
+
+/// Whether the way out from what a cut left ends as the uncut move.
+fn mended(case: &Case, left: &[u8], phase: usize, whole: &[u8]) -> bool {
+    let again = agreed(&Case { image: left.to_vec(), ..case.clone() });
+    match phase {
+        0 => again.answer == DONE && again.image == whole,
+        1 => {
+            let delete = Case { op: Op::InfoDelete, args: vec![], image: left.to_vec(), ..case.clone() };
+            again.answer == INVALID_OPERATION && again.image == left && agreed(&delete).image == whole
+        }
+        _ => left == whole,
+    }
 }
 
 /// The sentence of the promise that this result breaks, if any.

@@ -15,6 +15,8 @@ use bench::{
 };
 use harness::{geometry::Geometry, op::Op};
 
+const METADATA: u32 = 2;
+const DATA: u32 = 3;
 const FINALIZED: u64 = 2;
 const HASH: u32 = 7;
 const NAME: &[u8] = b"A";
@@ -37,13 +39,21 @@ fn file(at: [Place; 3], content: &[u8]) -> File<'_> {
     File { hash: HASH, name: NAME, content, metadata: at[0], name_at: at[1], content_at: at[2] }
 }
 
-/// A Metadata block and two Data blocks, and the street with content 1, on each side.
-fn street(granularity: u8) -> Vec<Bench> {
+/// Blocks of these kinds, on each side.
+fn blocks(granularity: u8, kinds: [u32; 3]) -> Vec<Bench> {
     let mut made = sides(Geometry { granularity, s: 1, c: 1, size: 64, count: 3 });
     for b in &mut made {
-        for (block, kind) in [(0, 2), (1, 3), (2, 3)] {
-            b.ask(Op::BlockHeaderWrite, &[block, kind, 0], &[], &[]).unwrap();
+        for (block, kind) in kinds.into_iter().enumerate() {
+            b.ask(Op::BlockHeaderWrite, &[block as u32, kind, 0], &[], &[]).unwrap();
         }
+    }
+    made
+}
+
+/// A Metadata block and two Data blocks, and the street with content 1.
+fn street(granularity: u8) -> Vec<Bench> {
+    let mut made = blocks(granularity, [METADATA, DATA, DATA]);
+    for b in &mut made {
         create(b, file(places(granularity).old, b"1")).unwrap();
     }
     made
@@ -159,6 +169,20 @@ fn the_street_is_changed() {
 }
 
 #[test]
+fn a_street_is_made() {
+    for granularity in [0, 1, 4] {
+        let p = places(granularity);
+        for b in blocks(granularity, [METADATA, DATA, DATA]) {
+            let expected = match granularity {
+                4 => found(13, &[[2, 2], [6, 11]], &[[6, 11]], &[]),
+                _ => found(19, &[[2, 2], [6, 17]], &[[6, 17]], &[]),
+            };
+            assert_eq!(at_each_cut(&b, |b| create(b, file(p.old, b"1"))), expected, "{}", b.side);
+        }
+    }
+}
+
+#[test]
 fn the_street_is_deleted() {
     for granularity in [0, 1, 4] {
         let p = places(granularity);
@@ -226,10 +250,7 @@ fn the_old_street_comes_back_when_the_new_one_is_deleted() {
 
 #[test]
 fn a_street_behind_a_cut_entry_is_not_found() {
-    for mut b in sides(Geometry { granularity: 0, s: 1, c: 1, size: 64, count: 3 }) {
-        for (block, kind) in [(0, 2), (1, 3), (2, 2)] {
-            b.ask(Op::BlockHeaderWrite, &[block, kind, 0], &[], &[]).unwrap();
-        }
+    for mut b in blocks(0, [METADATA, DATA, METADATA]) {
         create(&mut b, file([[2, 8], [1, 8], [1, 12]], b"1")).unwrap();
         assert_eq!(lookup(&mut b, HASH, NAME), Ok(Some([2, 8])));
         b.fuse = Some(2);
