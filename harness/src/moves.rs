@@ -2,13 +2,16 @@
 //! copy's finish mark only the original reads as finished, whole; between the marks both, equal; after the delete mark
 //! only the copy; no byte changes outside the destination's span and the original's state mark. And the way out: the same
 //! move again ends as the uncut one from every cut before the finish mark; between the marks it gives 4 and stores
-//! nothing, and deleting the original ends so.
+//! nothing, and deleting the original ends so. And scans: where the copy goes to the free end of its block and its payload
+//! does not begin as a header could, a scan of that block is refused after the payload's units until the size is begun.
+
+use std::ops::RangeInclusive;
 
 use crate::{
-    answer::{DONE, INVALID_OPERATION},
+    answer::{DONE, FS_CORRUPTED, INVALID_OPERATION},
     case::Case,
     cases::{images, units},
-    compare::judge,
+    compare::{judge, Judged},
     geometry::Geometry,
     model::{header::Header, header::DELETED, header::FINALIZED, layout, Flash},
     op::Op,
@@ -23,6 +26,8 @@ pub struct Seen {
     pub cases: u64,
     /// before the finish mark, between the marks, after the delete mark
     pub phases: [u64; 3],
+    /// scans of the copy's block: done, refused
+    pub scans: [u64; 2],
 }
 
 /// A move of a finished object to an erased place, on an image made by real sequences, with power.
@@ -52,10 +57,11 @@ fn overlap(g: Geometry, header: Header, to: u32, at: u32) -> bool {
     to == header.block && at < header.offset + span && header.offset < at + span
 }
 
-/// One move at every fuse: compared as any case, then its phase checked on each side's own result.
+/// One move at every fuse: compared as any case, then what is promised of it checked on each side's own result.
 pub fn every_fuse(case: &Case, seen: &mut Seen) -> Result<(), String> {
     let units = units(case);
     let whole = agreed(case).image;
+    let unscanned = unscanned(case);
     seen.moves += 1;
     for fuse in 0..=units + 1 {
         let cut = Case { fuse: Some(fuse), ..case.clone() };
@@ -66,18 +72,58 @@ pub fn every_fuse(case: &Case, seen: &mut Seen) -> Result<(), String> {
         let phase = if fuse + 1 < units { 0 } else { (fuse + 2 - units).min(2) as usize };
         seen.cases += 1;
         seen.phases[phase] += 1;
-        let sides =
-            [("model", Some(&judged.model)), ("text", judged.text.as_ref().ok()), ("library", judged.library.as_ref())];
-        for (side, outcome) in sides {
-            if let Some(broken) = outcome.and_then(|outcome| broken(&cut, outcome, phase)) {
-                return Err(format!("{side}, fuse {fuse} of {units}: {broken}\n{}\n{}", cut.line(), judged.show(&cut)));
-            }
-        }
+        let wrong = |what: String| format!("fuse {fuse} of {units}: {what}\n{}\n{}", cut.line(), judged.show(&cut));
+        phases(&cut, &judged, phase).map_err(wrong)?;
+        scanned(case, &judged.model.image, fuse, &unscanned, seen).map_err(wrong)?;
         if !mended(case, &judged.model.image, phase, &whole) {
-            return Err(format!("fuse {fuse} of {units}: the way out does not end as the uncut move\n{}", cut.line()));
+            return Err(wrong("the way out does not end as the uncut move".to_string()));
         }
     }
     Ok(())
+}
+
+/// The promise about cuts, on each side's own result.
+fn phases(cut: &Case, judged: &Judged, phase: usize) -> Result<(), String> {
+    let sides =
+        [("model", Some(&judged.model)), ("text", judged.text.as_ref().ok()), ("library", judged.library.as_ref())];
+    for (side, outcome) in sides {
+        if let Some(broken) = outcome.and_then(|outcome| broken(cut, outcome, phase)) {
+            return Err(format!("{side}: {broken}"));
+        }
+    }
+    Ok(())
+}
+
+/// The scan of the copy's block is refused after just the cuts that are said, where something is said.
+fn scanned(
+    case: &Case,
+    image: &[u8],
+    fuse: u32,
+    said: &Option<RangeInclusive<u32>>,
+    seen: &mut Seen,
+) -> Result<(), String> {
+    let Some(said) = said else { return Ok(()) };
+    let refused = scan(case, image).answer == FS_CORRUPTED;
+    seen.scans[refused as usize] += 1;
+    (refused == said.contains(&fuse)).then_some(()).ok_or("the scan of the copy's block is not as expected".to_string())
+}
+
+fn scan(case: &Case, image: &[u8]) -> Outcome {
+    agreed(&Case { args: vec![case.args[0]], image: image.to_vec(), ..Case::of(Op::ScanBlock, case.geometry) })
+}
+
+/// The cuts after which the copy's block cannot be scanned; none where this is not said of the move: the copy does not go
+/// to the free end of a block that scans, its payload begins as a header could, or no second header fits.
+fn unscanned(case: &Case) -> Option<RangeInclusive<u32>> {
+    let (g, at) = (case.geometry, case.args[1]);
+    let before = scan(case, &case.image);
+    let free_end = before.answer == DONE && before.values[0] >= 2 && before.values[2] == at as u64;
+    let header = layout::header_len(g);
+    let original = Header::from_numbers(&case.array);
+    let (_, payload) = finished_at(case, &case.image, original.block, original.offset)?;
+    let first = *payload.first()?;
+    let said = free_end && !matches!(first, 0x8D..=0x8F | 0xFF) && at as u64 + 2 * header < g.size as u64;
+    said.then(|| 2..=1 + payload.len().div_ceil(layout::width(g) as usize) as u32)
 }
 
 /// Whether the way out from what a cut left ends as the uncut move.

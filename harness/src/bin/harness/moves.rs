@@ -27,6 +27,8 @@ pub fn run(o: &Options) -> Result<(), String> {
     let [before, between, after] = seen.phases;
     println!("moves: {} at every fuse, {} cases (seed {}), every phase and the way out hold", seen.moves, seen.cases, o.seed);
     println!("  {before} before the copy's finish mark, {between} between the marks, {after} after the delete mark");
+    let [done, refused] = seen.scans;
+    println!("  scans of the copy's block: {done} done, {refused} refused, each where it should be");
     println!("  {:.1} s", start.elapsed().as_secs_f64());
     Ok(())
 }
