@@ -158,7 +158,7 @@ module _ (g : Geometry) (h : ObjectHeader) (to : ObjectLocation) (t : ObjectType
       move-ran g h to t pay (at-cut k) (subst (λ (vs : List FlashUnit). Able g h to t pay (apply vs img)) (sym (cut-before g h to t pay img r k c)) (able-begun k))
       ∙ ap (ran units) (copy-is g h to t pay img r)
 
-  left-is : (k : ℕ) → leftBy g h to img k ≡ at-cut k
+  pub left-is : (k : ℕ) → leftBy g h to img k ≡ at-cut k
   left-is k = state-cut (moveObject g h to) units (copyOf g h to) img (move-traced g h to t pay img r) k
 
   -- units that follow a part of themselves end where they end at once

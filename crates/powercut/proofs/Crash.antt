@@ -36,7 +36,7 @@ module _ (g : Granularity) (s : ℕ) (t : ObjectType) (q : ℕ) (pay : List ℕ)
   pub type-clear : (j lo hi : ℕ) → lo ≤ q → q + widthOf g ≤ hi → Clear lo hi j → All (Misses j) (typeUnits g t q)
   type-clear j lo hi h k c = inside (widthOf g) (l .pos) q (typeByte t ∷ []) lo hi j h (omega (arith, l)) c
 
-  pay-clear : (j lo hi : ℕ) → lo ≤ q + header g s → q + span g s (length pay) ≤ hi → Clear lo hi j → All (Misses j) (payUnits g s pay q)
+  pub pay-clear : (j lo hi : ℕ) → lo ≤ q + header g s → q + span g s (length pay) ≤ hi → Clear lo hi j → All (Misses j) (payUnits g s pay q)
   pay-clear j lo hi h k c = inside (widthOf g) (l .pos) (q + header g s) pay lo hi j h (omega (arith, l)) c
 
   pub size-clear : (j lo hi : ℕ) → lo ≤ q + sizeAt g → q + header g s ≤ hi → Clear lo hi j → All (Misses j) (sizeUnits g s (length pay) q)
@@ -164,19 +164,22 @@ module _ (g : Granularity) (s : ℕ) (t : ObjectType) (p q size : ℕ) (pay img 
   pub copy-free : stateSeen g q img ≡ done Free
   copy-free = seen-free g q img (blank-at q (omega arith) (omega (arith, l)))
 
+  -- unfinished from the first unit on
+  pub copy-begun : (k : ℕ) → stateSeen g q (apply (take (suc k) (before g s t pay q)) img) ≡ done (Allocated t Untrusted)
+  copy-begun k =
+      seen-object g q (apply (take (suc k) (before g s t pay q)) img) t 255 255 Untrusted (first-byte k)
+      (blank-mark (suc k) (finishAt g) (l .type-finish) (omega (arith, l)))
+      (blank-mark (suc k) (deleteAt g) (l .type-delete) (omega (arith, l)))
+      (blank-marks g)
+
   pub copy-before : (k : ℕ)
       → (stateSeen g q (apply (take k (before g s t pay q)) img) ≡ done Free) ⊎ (stateSeen g q (apply (take k (before g s t pay q)) img) ≡ done (Allocated t Untrusted))
   copy-before zero = inl copy-free
-  copy-before (suc k) =
-      inr
-      (seen-object g q (apply (take (suc k) (before g s t pay q)) img) t 255 255 Untrusted (first-byte k)
-      (blank-mark (suc k) (finishAt g) (l .type-finish) (omega (arith, l)))
-      (blank-mark (suc k) (deleteAt g) (l .type-delete) (omega (arith, l)))
-      (blank-marks g))
+  copy-before (suc k) = inr (copy-begun k)
 
   -- ---- phase 2: the finish mark is programmed, and then some units that miss the copy
 
-  pay-byte : (i : ℕ) → i < length pay → getD pay i 0 < 256
+  pub pay-byte : (i : ℕ) → i < length pay → getD pay i 0 < 256
   pay-byte i h =
       subst (λ (bs : List ℕ). getD bs i 0 < 256) (v .original .bytes-are)
       (rw (getD-part (p + header g s) (length pay) img i 0 h) (v .byte (p + header g s + i)))

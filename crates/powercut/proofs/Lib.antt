@@ -10,4 +10,5 @@ pub mod Walk
 pub mod Steps
 pub mod Phantom
 pub mod Listed
+pub mod Scans
 pub mod Instance

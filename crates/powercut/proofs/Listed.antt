@@ -79,7 +79,7 @@ unfolding payloadOf
 payload-size s h k e = rw e
 
 -- an FF byte is a free place
-free-info : (g : Geometry) (b o : ℕ) (m : List ℕ) → checkOf g (length m) ≡ 0 → b < g .count → o + sizeAt (g .granularity) + g .s ≤ g .size → getD m (address g b o) 0 ≡ 255 → infoAt g (place g b o) m ≡ done none
+pub free-info : (g : Geometry) (b o : ℕ) (m : List ℕ) → checkOf g (length m) ≡ 0 → b < g .count → o + sizeAt (g .granularity) + g .s ≤ g .size → getD m (address g b o) 0 ≡ 255 → infoAt g (place g b o) m ≡ done none
 unfolding infoAt
 free-info g b o m f hb fits e = rw (header-read g (place g b o) m Free _ f hb fits (seen-free (g .granularity) (address g b o) m e) refl)
 

@@ -99,7 +99,7 @@ module _ (g : Geometry) (h : ObjectHeader) (to : ObjectLocation) (t : ObjectType
   pub cut-before : (k : ℕ) → k ≤ N → take k us ≡ take k (before gr s t pay q)
   cut-before k c = take-append-le k (before gr s t pay q) (markUnits gr q ++ deleteUnits gr p) (omega (arith, length-before))
 
-  cut-copied : (k : ℕ) → k ≤ N + 1 → take k us ≡ take k all-copied
+  pub cut-copied : (k : ℕ) → k ≤ N + 1 → take k us ≡ take k all-copied
   cut-copied k c = ap (take k) as-copied ∙ take-append-le k all-copied (deleteUnits gr p) (omega (arith, length-copied))
 
   pub cut-between : (k : ℕ) → k ≡ N + 1 → take k us ≡ all-copied

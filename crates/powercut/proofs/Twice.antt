@@ -1,17 +1,18 @@
 -- Programming is an AND, byte for byte: it may be done in any order, and twice is as good as once. With the width as a parameter.
 use mathlib.Core.Path.{_≡_, refl, sym, ap, ap₂, _∙_}
 use mathlib.Core.Logic.{_⊎_, inl, inr}
-use mathlib.Core.List.{List, [], _∷_, _++_}
+use mathlib.Core.List.{List, [], _∷_, _++_, append-nil}
 use Prim.Native.Nat.{ℕ, zero, suc, _+_, _*_, _/_, _%_, _≤_, _<_, min, max}
+use native.Mathlib.Nat.{mul-le-mul-right}
 use native.Mathlib.Omega.{arith}
-use lib.ListN.{length, take, drop, take-append-drop}
-use lib.Seq.{take-take}
+use lib.ListN.{length, take, drop, getD, take-append-drop}
+use lib.Seq.{take-take, take-all, length-take-le, getD-take}
 use lib.Bits.{bitAnd, and-step, and-self, and-comm}
 use Rattle.medium.specs.Granularity.{unitsIn}
 use Rattle.medium.specs.Units.{FlashUnit, programmed, erased, over, program, padded, words, unitsOf}
 use Rattle.medium.specs.Operation.{apply}
 use Rattle.medium.proofs.Runs.{apply-append, leb-is}
-use Rattle.medium.proofs.Bytes.{All, All-append, All-take}
+use Rattle.medium.proofs.Bytes.{All, All-take, program-at, length-padded, getD-padded, words-cut, length-units, stored}
 
 -- ---- AND
 
@@ -130,3 +131,20 @@ cut-twice us k n img h = go (leb-is k n)
         let e : k ≡ max k n = omega arith in
         apply-swap (take n us) (take k us) img (All-take Programs n us h) (All-take Programs k us h)
         ∙ later n k (omega arith) ∙ ap (λ (i : ℕ). apply (take i us) img) e
+
+-- ---- a store that is cut
+
+-- a byte of the units that are stored is old AND new
+pub cut-stored : (w : ℕ) (hw : 0 < w) (k a : ℕ) (bs img : List ℕ) (i : ℕ) → i < k * w → i < length bs → a + i < length img
+    → getD (apply (take k (unitsOf w a bs)) img) (a + i) 0 ≡ bitAnd (getD img (a + i) 0) (getD bs i 0)
+cut-stored w hw k a bs img i c d e = go (leb-is k (unitsIn w (length bs)))
+  where
+    go : (k ≤ unitsIn w (length bs)) ⊎ (unitsIn w (length bs) < k) → getD (apply (take k (unitsOf w a bs)) img) (a + i) 0 ≡ bitAnd (getD img (a + i) 0) (getD bs i 0)
+    go (inl h) =
+        let long : length (take (k * w) (padded w bs)) ≡ k * w = length-take-le (k * w) (padded w bs) (omega (arith, length-padded w hw bs, mul-le-mul-right w h)) in
+        ap (λ (m : List ℕ). getD m (a + i) 0) (words-cut k (unitsIn w (length bs)) w a (padded w bs) img h (length-padded w hw bs))
+        ∙ program-at a (take (k * w) (padded w bs)) img i 0 (omega arith) e
+        ∙ ap (bitAnd (getD img (a + i) 0)) (getD-take (k * w) (padded w bs) i 0 c ∙ getD-padded w hw bs i 0 d)
+    go (inr h) =
+        ap (λ (us : List FlashUnit). getD (apply us img) (a + i) 0) (take-all k (unitsOf w a bs) (omega (arith, length-units w a bs)) ∙ sym (append-nil (unitsOf w a bs)))
+        ∙ stored w hw [] [] a bs i img tt tt d e

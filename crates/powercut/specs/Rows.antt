@@ -7,7 +7,7 @@ use Prim.Native.Nat.{ℕ, zero, suc, _+_, _-_, _%_}
 use lib.ListN.{length, getD, replicate}
 use lib.Dec.{leb, ltb, eqb}
 use lib.Pow.{areBytes}
-use Rattle.medium.specs.declared.granularity.Granularity.the-variants.{Bit}
+use Rattle.medium.specs.declared.granularity.Granularity.the-variants.{Bit, Word1, Word4}
 use Rattle.medium.specs.declared.geometry.Geometry.{Geometry}
 use Rattle.medium.specs.declared.fuse.Fuse.{Fuse}
 use Rattle.medium.specs.declared.fuse.Fuse.the-variants.{Absent, Units}
@@ -20,7 +20,7 @@ use Rattle.objects.specs.declared.state.ObjectDataState.the-variants.{Valid}
 use Rattle.objects.specs.declared.state.CompositeObjectState.the-variants.{Allocated}
 use Rattle.objects.specs.declared.location.ObjectLocation.{ObjectLocation}
 use Rattle.objects.specs.declared.header.ObjectHeader.{ObjectHeader}
-use Rattle.objects.specs.Types.{typeOf, markOf, marksOf, rankOf, stateIn}
+use Rattle.objects.specs.Types.{typeOf, markOf, pairOf, marksOf, rankOf, stateIn}
 use Rattle.objects.specs.Header.{stateAt, sizedAt, headerAt, payloadOf, allocatableOf, marking, setState, sizableOf, setPayloadSize}
 use Rattle.objects.specs.Info.{infoAt, totalOf, spanOf}
 use Rattle.objects.specs.Reader.{readerAt, remainingOf, leftOf, readSome}
@@ -30,22 +30,35 @@ use Rattle.writer.specs.Moving.{sourceAt, chunk, copying, copyObject, moveObjec
 use Rattle.powercut.specs.Demand.{addressOf, payloadIn}
 use Rattle.powercut.specs.Listed.{same, payloadRead, isPayload, isCopy, copiesBefore, copiesAfter}
 use Rattle.powercut.specs.Again.{leftBy}
+use Rattle.powercut.specs.Scans.{stopAfter}
 
 abbrev all : List Bool → Bool
 all [] = true
 all (b ∷ bs) = b && all bs
 
--- ---- A's widths, with two blocks of 64 bytes
+-- ---- A's, C's and B's widths, with two blocks of 64 bytes, and A's with sizes of two bytes
 
 abbrev small : Geometry
 small = record { granularity = Bit; s = 1; c = 1; size = 64; count = 2 }
 
+abbrev small-byte : Geometry
+small-byte = record { granularity = Word1; s = 1; c = 1; size = 64; count = 2 }
+
+abbrev small-word : Geometry
+small-word = record { granularity = Word4; s = 1; c = 1; size = 64; count = 2 }
+
+abbrev two-bytes : ℕ → Geometry
+two-bytes n = record { granularity = Bit; s = 2; c = 1; size = n; count = 2 }
+
 abbrev place : ℕ → ℕ → ObjectLocation
 place b o = record { block = b; offset = o }
 
--- a finished data object of n bytes at offset 8 of block 0
+-- a finished data object of n bytes at an offset of block 0
+abbrev object-at : ℕ → ℕ → ObjectHeader
+object-at o n = record { state = Allocated FileData Valid; size = n; location = place 0 o }
+
 abbrev object : ℕ → ObjectHeader
-object n = record { state = Allocated FileData Valid; size = n; location = place 0 8 }
+object n = object-at 8 n
 
 -- a block with some bytes at an offset, and FF
 abbrev block : ℕ → List ℕ → List ℕ
@@ -112,9 +125,18 @@ stopNumber free = 0
 stopNumber (broken n) = n
 
 -- after each number of units below n, the last first
-abbrev stops : ObjectHeader → ObjectLocation → List ℕ → ℕ → List ℕ
-stops h to img zero = []
-stops h to img (suc n) = stopNumber (listing small (to .block) (leftBy small h to img n) .stop) ∷ stops h to img n
+abbrev stops : Geometry → ObjectHeader → ObjectLocation → List ℕ → ℕ → List ℕ
+stops g h to img zero = []
+stops g h to img (suc n) = stopNumber (stopAfter g h to img n) ∷ stops g h to img n
+
+-- ---- the same move again, after each number of units below n, the last first: its number, where it leaves what the uncut move leaves, or what it found
+
+abbrev again : ObjectHeader → ObjectLocation → List ℕ → ℕ → List ℕ
+again h to img zero = []
+again h to img (suc n) =
+    let e = run Absent (moveObject small h to) (leftBy small h to img n) in
+    pick (same (e .state) (pick (eqb (numberOf (e .answer)) 0) (run Absent (moveObject small h to) img .state) (leftBy small h to img n))) (numberOf (e .answer)) 99
+    ∷ again h to img n
 
 abbrev isEnd : Stop → Bool
 isEnd end = true
@@ -124,6 +146,13 @@ isEnd (broken n) = false
 -- an empty object moved to where a listing stops at its block's end, behind an object of 50 bytes: it is listed before the move, and not after
 abbrev empty : List ℕ
 empty = block 8 (0x8E ∷ 0xF0 ∷ 0x00 ∷ []) ++ block 8 (0x8E ∷ 0xF0 ∷ 0x32 ∷ replicate 50 0x41)
+
+-- an object of three bytes where a unit is a word, and one of 255 bytes with a size of two, in blocks of 512
+abbrev worded : List ℕ
+worded = 0x8E ∷ 0xFF ∷ 0xFF ∷ 0xFF ∷ 0x00 ∷ 0xFF ∷ 0xFF ∷ 0xFF ∷ 0xFF ∷ 0xFF ∷ 0xFF ∷ 0xFF ∷ 0x03 ∷ 0xFF ∷ 0xFF ∷ 0xFF ∷ 0x41 ∷ 0x42 ∷ 0x43 ∷ 0xFF ∷ []
+
+abbrev long : List ℕ
+long = replicate 8 255 ++ (0x8E ∷ 0xF0 ∷ 0xFF ∷ 0x00 ∷ []) ++ replicate 255 0x41 ++ replicate 757 255
 
 abbrev table : List Bool
 table =
@@ -148,12 +177,21 @@ table =
     ∷ isEnd (listing small 1 empty .stop) ∷ eqb (listing small 1 empty .last) 61
     ∷ eqb (copiesBefore small (object 0) (place 1 61) FileData empty) 1 ∷ eqb (copiesAfter small (object 0) (place 1 61) FileData empty Absent) 0
     -- the listing of the destination's block is refused after units 2, 3 and 4 of 7
-    ∷ same (stops (object 3) (place 1 8) (block 8 abc ++ block 8 []) 8) (0 ∷ 0 ∷ 0 ∷ 2 ∷ 2 ∷ 2 ∷ 0 ∷ 0 ∷ [])
+    ∷ same (stops small (object 3) (place 1 8) (block 8 abc ++ block 8 []) 8) (0 ∷ 0 ∷ 0 ∷ 2 ∷ 2 ∷ 2 ∷ 0 ∷ 0 ∷ [])
+    ∷ same (stops small-byte (object 3) (place 1 8) (block 8 (0x8E ∷ 0x00 ∷ 0xFF ∷ 0x03 ∷ 0x41 ∷ 0x42 ∷ 0x43 ∷ []) ++ block 8 []) 8) (0 ∷ 0 ∷ 0 ∷ 2 ∷ 2 ∷ 2 ∷ 0 ∷ 0 ∷ [])
+    -- after unit 2 of 5 where a unit is a word
+    ∷ same (stops small-word (object-at 12 3) (place 1 12) (block 12 worded ++ block 8 []) 6) (0 ∷ 0 ∷ 0 ∷ 2 ∷ 0 ∷ 0 ∷ [])
+    -- a size of two bytes that is half stored reads large, and the listing steps past the block's end
+    ∷ same (stops (two-bytes 64) (object 3) (place 1 8) (block 8 (0x8E ∷ 0xF0 ∷ 0x03 ∷ 0x00 ∷ 0x41 ∷ 0x42 ∷ 0x43 ∷ []) ++ block 8 []) 9) (0 ∷ 0 ∷ 0 ∷ 0 ∷ 2 ∷ 2 ∷ 2 ∷ 0 ∷ 0 ∷ [])
+    -- but where its low byte is FF it still reads unset: 255 bytes, refused after unit 257 too, and not after unit 258
+    ∷ same (stopNumber (stopAfter (two-bytes 512) (object 255) (place 1 8) long 257) ∷ stopNumber (stopAfter (two-bytes 512) (object 255) (place 1 8) long 258) ∷ []) (2 ∷ 0 ∷ [])
     -- and at no cut where the payload begins with FF, or where no second header fits
-    ∷ same (stops (object 3) (place 1 8) (block 8 (0x8E ∷ 0xF0 ∷ 0x03 ∷ 0xFF ∷ 0x42 ∷ 0x43 ∷ []) ++ block 8 []) 8) (0 ∷ 0 ∷ 0 ∷ 0 ∷ 0 ∷ 0 ∷ 0 ∷ 0 ∷ [])
-    ∷ same (stops (object 3) (place 1 58) (block 8 abc ++ block 8 (0x8E ∷ 0xF0 ∷ 0x2F ∷ replicate 47 0x41)) 8) (0 ∷ 0 ∷ 0 ∷ 0 ∷ 0 ∷ 0 ∷ 0 ∷ 0 ∷ [])
+    ∷ same (stops small (object 3) (place 1 8) (block 8 (0x8E ∷ 0xF0 ∷ 0x03 ∷ 0xFF ∷ 0x42 ∷ 0x43 ∷ []) ++ block 8 []) 8) (0 ∷ 0 ∷ 0 ∷ 0 ∷ 0 ∷ 0 ∷ 0 ∷ 0 ∷ [])
+    ∷ same (stops small (object 3) (place 1 58) (block 8 abc ++ block 8 (0x8E ∷ 0xF0 ∷ 0x2F ∷ replicate 47 0x41)) 8) (0 ∷ 0 ∷ 0 ∷ 0 ∷ 0 ∷ 0 ∷ 0 ∷ 0 ∷ [])
+    -- the same move again reaches the end of the uncut one up to unit 5, and is refused 4 between the marks
+    ∷ same (again (object 3) (place 1 8) (block 8 abc ++ block 8 []) 7) (4 ∷ 0 ∷ 0 ∷ 0 ∷ 0 ∷ 0 ∷ 0 ∷ [])
     ∷ []
 
 pub rows : all table ≡ true
-unfolding geometryOk admit _>>=_ ask test putting run readable writable readAt write typeOf markOf marksOf stateIn stateAt sizedAt headerAt payloadOf totalOf allocatableOf marking setState sizableOf setPayloadSize infoAt nextOf listFrom listing readerAt remainingOf leftOf readSome soundOf allocate appendable putBytes append finishable flush close finalize sourceAt chunk copying copyObject moveObject payloadRead isCopy
+unfolding geometryOk admit _>>=_ ask test putting run readable writable readAt write typeOf markOf pairOf marksOf stateIn stateAt sizedAt headerAt payloadOf totalOf allocatableOf marking setState sizableOf setPayloadSize infoAt nextOf listFrom listing readerAt remainingOf leftOf readSome soundOf allocate appendable putBytes append finishable flush close finalize sourceAt chunk copying copyObject moveObject payloadRead isCopy
 rows = refl
