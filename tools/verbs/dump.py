@@ -37,10 +37,10 @@ def too_long(said, geometry, image):
     """The dump, where the program has refused it only because its image is longer than the buffer; otherwise None.
 
     6 comes before 7, so the record of an image that is refused with 7 is sound: what is left to test is the image's length."""
-    if said != REFUSED_ROOM:
+    if said != REFUSED_ROOM or os.path.getsize(image) <= BUFFER:
         return None
     with open(geometry, 'rb') as g, open(image, 'rb') as i:
         record = g.read(16)
         size, count = struct.unpack_from('<II', record, 4)
         held = i.read(size * count + 1)
-    return Dump(record, held) if BUFFER < len(held) == size * count else None
+    return Dump(record, held) if len(held) == size * count else None
