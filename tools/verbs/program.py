@@ -47,7 +47,7 @@ def check(crates, place):
             said, _ = run.communicate(timeout=60 if told else 3)
             break
         except subprocess.TimeoutExpired:
-            took = f', {time.time() - began:.0f} s so far' if told else f' ({place}): seconds to minutes, the first time only'
+            took = f', {time.time() - began:.0f} s so far' if told else f' ({place}; up to three minutes on an idle machine, the first time only)'
             note(f'proving {names}{took} ..')
             told = True
     if run.returncode:
