@@ -7,7 +7,11 @@
 mod chip;
 
 use chip::{now, Chip, Flash, Lent, Shared};
-use norfs::{OnCollision, Storage, StorageError};
+use norfs::{
+    medium::StorageMedium,
+    writer::{FileDataWriter, Writer},
+    OnCollision, Storage, StorageError,
+};
 
 const SIZE: usize = 64;
 const COUNT: usize = 5;
@@ -98,7 +102,7 @@ fn with<M: Lent>(files: &[(&str, usize)]) -> Chip
 where
     [(); M::BLOCK_COUNT]:,
 {
-    let chip = Chip::erased(SIZE * COUNT).shared();
+    let chip = Chip::erased(M::BLOCK_SIZE * M::BLOCK_COUNT).shared();
     let mut store: Storage<M> = now(Storage::format_and_mount(M::lent(&chip))).unwrap();
     for &(name, len) in files {
         now(store.store(name, &vec![b'1'; len], OnCollision::Fail)).unwrap();
@@ -128,6 +132,39 @@ fn data_move() {
     let found = at_each_cut::<Bits>(&three, "B", |store| now(store.store("D", &[b'4'; 30], OnCollision::Fail)));
     println!("bits, making room for D moves a data object of B (10 bytes; its metadata names 3 places):");
     show("make room", &found);
+}
+
+/// Content of a length that is not told beforehand.
+struct Untold<'a>(&'a [u8]);
+
+impl FileDataWriter for Untold<'_> {
+    async fn write<M>(&self, writer: &mut Writer<M>, storage: &mut Storage<M>) -> Ended
+    where
+        M: StorageMedium,
+        [(); M::BLOCK_COUNT]:,
+    {
+        writer.write_all(self.0, storage).await
+    }
+}
+
+/// A street of 30 bytes whose metadata outgrows its block: what its length reads as after each cut.
+fn outgrown() {
+    type Eight = Flash<0, SIZE, 8>;
+    let before = with::<Eight>(&[("A", 1), ("B", 1), ("C", 1), ("D", 1)]);
+    println!("bits, 8 blocks, the metadata of a street of 30 bytes outgrows its block:");
+    for k in 0.. {
+        let chip = before.shared();
+        let mut store = mount::<Eight>(&chip).unwrap();
+        chip.borrow_mut().fuse = Some(k);
+        let ended = now(store.store_writer("E", &Untold(&[b'5'; 30]), OnCollision::Fail));
+        chip.borrow_mut().fuse = None;
+        if let Ok(Ok(size)) = mount::<Eight>(&chip).map(|mut store| now(store.file_size("E"))) {
+            println!("  after {k}: a finished street of {size} bytes");
+        }
+        if ended.is_ok() {
+            return;
+        }
+    }
 }
 
 /// Making room for D formats the block of all metadata, since it is just half full: A and B are gone.
@@ -166,6 +203,7 @@ fn main() {
     windows::<Words1>("words of 1");
     windows::<Words4>("words of 4");
     data_move();
+    outgrown();
     half_full();
     endless();
 }
