@@ -38,7 +38,7 @@ use Rattle.medium.proofs.Runs.{apply-append, prefix-flash, cost-flash, leb-is, 
 use Rattle.medium.proofs.Bytes.{All, All-append, length-apply}
 use Rattle.medium.proofs.Places.{laid}
 use Rattle.powercut.proofs.Twice.{Programs, store-programs, cut-twice}
-use Rattle.powercut.proofs.Reading.{stateSeen, Stands, state-read}
+use Rattle.shown.proofs.Reading.{stateSeen, Stands, state-read}
 use Rattle.powercut.proofs.Crash.{original-before, copy-before, original-between, copy-between}
 use Rattle.powercut.proofs.Ran.{Ready, Able, able, able-on, ran, source-of, move-ran, delete-ran}
 use Rattle.powercut.proofs.Survive.{N, us, all-copied, as-copied, cut-before, cut-between, units-are, copy-is, original-whole, move-traced, ready}

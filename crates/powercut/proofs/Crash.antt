@@ -22,9 +22,11 @@ use Rattle.powercut.specs.Demand.{Clear}
 use Rattle.powercut.specs.Stores.{typeUnits, payUnits, sizeUnits, markUnits, deleteUnits, before}
 use Rattle.medium.proofs.Runs.{apply-append, leb-is}
 use Rattle.medium.proofs.Bytes.{and-ff, ff-and, program-off, program-at, Misses, All, All-append, All-take, frame, store-miss, store-whole, length-apply, stored, getD-pad, part-is, getD-part, length-padded}
+use Rattle.medium.proofs.Frame.{part-same}
 use Rattle.medium.proofs.Places.{Laid, laid}
+use Rattle.objects.proofs.Numbers.{length-bytes}
 use Rattle.powercut.proofs.Places.{span, far-from}
-use Rattle.powercut.proofs.Reading.{stateSeen, sizeSeen, Stands, type-small, Shown, shown, seen-object, seen-free, blank-marks, mark-valid, mark-deleted, part-same, stands-same, length-bytes, byte-bytes, size-says}
+use Rattle.shown.proofs.Reading.{stateSeen, sizeSeen, Stands, type-small, Shown, shown, seen-object, seen-free, blank-marks, mark-valid, mark-deleted, stands-same, byte-bytes, size-says}
 
 -- ---- a byte clear of an interval
 
@@ -348,7 +350,7 @@ module _ (g : Granularity) (s : ℕ) (t : ObjectType) (p q size : ℕ) (pay img 
   pub size-after : sizeSeen g s p (apply everything img) ≡ size
   size-after =
       ap number
-      (part-same img (apply everything img) (length-apply everything img) (p + sizeAt g) s (omega (arith, l, v .original-fits))
+      (part-same (p + sizeAt g) s img (apply everything img) (length-apply everything img) (omega (arith, l, v .original-fits))
       (λ j a b. frame j 0 everything img
       (all-clear (deleteUnits g p) delete-far delete-type j (far j (omega arith) (omega (arith, l)))
       (delete-clear g s t p pay l j (p + deleteAt g) (p + deleteAt g + widthOf g) (omega arith) (omega arith) (inr (omega (arith, l)))))))

@@ -1,13 +1,12 @@
 pub mod Places
-pub mod Reading
+pub mod Whole
 pub mod Crash
 pub mod Ran
 pub mod Survive
 pub mod Twice
 pub mod Answers
 pub mod Again
-pub mod Walk
-pub mod Steps
+pub mod Counting
 pub mod Phantom
 pub mod Listed
 pub mod Scans

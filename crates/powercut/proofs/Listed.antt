@@ -34,12 +34,14 @@ use Rattle.medium.proofs.Runs.{prefix-flash, cost-flash, leb-is, leb-yes, leb-n
 use Rattle.medium.proofs.Bytes.{getD-part}
 use Rattle.medium.proofs.Places.{Laid, laid}
 use Rattle.medium.proofs.Checks.{within}
-use Rattle.powercut.proofs.Reading.{seen-free, header-read}
+use Rattle.shown.proofs.Reading.{seen-free, header-read}
 use Rattle.powercut.specs.Stores.{before}
 use Rattle.powercut.proofs.Ran.{Ready, ran}
 use Rattle.powercut.proofs.Survive.{us, units-are, cut-before, move-traced, copy-size, span-is, fine-is, told, long, apart-plain, ready, demand}
-use Rattle.powercut.proofs.Walk.{place, visit, spanAt, next-in, next-end, next-object, span-least, Agree, Walked, walk-le, unwalk, Reached, reached, ended, walk-same, walk-count, list-count}
-use Rattle.powercut.proofs.Steps.{free-fits}
+use Rattle.shown.proofs.Walk.{place, visit, spanAt, next-in, next-end, next-object, span-least, Walked, walk-le, unwalk, Reached, reached, ended, walk-same}
+use Rattle.shown.proofs.Agreeing.{Agree, agree-of}
+use Rattle.powercut.proofs.Counting.{walk-count, list-count}
+use Rattle.shown.proofs.Steps.{free-fits}
 use Rattle.powercut.proofs.Phantom.{Partly, payload-partly, none-behind}
 
 count-append : (g : Geometry) (b : ℕ) (t : ObjectType) (pay m : List ℕ) (xs ys : List Visit) → countIn g b t pay m (xs ++ ys) ≡ countIn g b t pay m xs + countIn g b t pay m ys
@@ -152,14 +154,14 @@ module _ (g : Geometry) (h : ObjectHeader) (to : ObjectLocation) (room : ℕ) (t
     object-span : spanAt g src (m .object) ≡ sp
     object-span = span-size g (m .object) h (payload-size (g .s) (m .object) h (m .size-kept))
 
-    from-original : Agree g src img last (m .len) (v .fine) hs start off
+    from-original : Agree g src start off img last
         → copiesIn g src t pay last ≡ countIn g src t pay img (w .listed .before) + (x + countIn g src t pay last (listFrom left g (placed src (off + sp)) last .visits))
     unfolding listing listFrom
     from-original f =
         let r : Reached g src (g .size) img start (w .listed .before) (w .listed .after) (visit g src off h) = original-at in
         let n : g .size - length (w .listed .before) ≡ suc left = omega (arith, original-at .fuel) in
         let visits : listFrom (g .size) g (placed src start) last .visits ≡ w .listed .before ++ listFrom (suc left) g (placed src off) last .visits =
-        unwalk g src last fine-last (w .listed .before) start off (g .size) (walk-same g src img last (m .len) (v .fine) hs t pay (w .listed .before) start off (r .walked) f) (omega (arith, original-at .fuel))
+        unwalk g src last fine-last (w .listed .before) start off (g .size) (walk-same g src img last (v .fine) (w .listed .before) start off (r .walked) f) (omega (arith, original-at .fuel))
         ∙ ap (λ (k : ℕ). w .listed .before ++ listFrom k g (placed src off) last .visits) n in
         let step : listFrom (suc left) g (placed src off) last .visits ≡ visit g src off (m .object) ∷ listFrom left g (placed src (off + sp)) last .visits =
         ap (λ (k : Next). listBy k (placed src off) (λ j. listFrom left g j last) .visits) (next-object g src last fine-last off (m .object) (r .fits) (m .info))
@@ -167,16 +169,16 @@ module _ (g : Geometry) (h : ObjectHeader) (to : ObjectLocation) (room : ℕ) (t
         ap (countIn g src t pay last) (visits ∙ ap (λ (k : List Visit). w .listed .before ++ k) step)
         ∙ count-append g src t pay last (w .listed .before) (visit g src off (m .object) ∷ listFrom left g (placed src (off + sp)) last .visits)
         ∙ ap₂ (λ (i j : ℕ). i + (j + countIn g src t pay last (listFrom left g (placed src (off + sp)) last .visits)))
-        (walk-count g src img last (m .len) (v .fine) hs t pay (w .listed .before) start off (r .walked) f) (m .counts)
+        (walk-count g src img last (v .fine) t pay (w .listed .before) start off (r .walked) f) (m .counts)
 
     -- a walk to the destination, and then what stands there
-    to-end : (b n o : ℕ) (hb : b < g .count) (vs : List Visit) → b ≡ dst → Walked g b img o vs (to .offset) → length vs < n → Agree g b img last (m .len) (v .fine) hb o (to .offset)
+    to-end : (b n o : ℕ) (vs : List Visit) → b ≡ dst → Walked g b img o vs (to .offset) → length vs < n → Agree g b o (to .offset) img last
         → countIn g b t pay last (listFrom n g (placed b o) last .visits) ≡ countIn g b t pay img vs + y
-    to-end b n o hb vs e k lt f =
+    to-end b n o vs e k lt f =
         let i : n - length vs ≡ suc (n - length vs - 1) = omega arith in
-        ap (countIn g b t pay last) (unwalk g b last fine-last vs o (to .offset) n (walk-same g b img last (m .len) (v .fine) hb t pay vs o (to .offset) k f) (omega arith))
+        ap (countIn g b t pay last) (unwalk g b last fine-last vs o (to .offset) n (walk-same g b img last (v .fine) vs o (to .offset) k f) (omega arith))
         ∙ count-append g b t pay last vs (listFrom (n - length vs) g (placed b (to .offset)) last .visits)
-        ∙ ap₂ (λ (c d : ℕ). c + d) (walk-count g b img last (m .len) (v .fine) hb t pay vs o (to .offset) k f)
+        ∙ ap₂ (λ (c d : ℕ). c + d) (walk-count g b img last (v .fine) t pay vs o (to .offset) k f)
         (ap₂ (λ (c a : ℕ). countIn g a t pay last (listFrom c g (placed a (to .offset)) last .visits)) i e ∙ m .tail (n - length vs - 1))
 
   -- ---- in two blocks, or in one
@@ -214,13 +216,14 @@ module _ (g : Geometry) (h : ObjectHeader) (to : ObjectLocation) (room : ℕ) (t
     unfolding listing
     apart-counts ne =
         let a : copiesIn g src t pay last ≡ before-count + (x + countIn g src t pay last (listFrom left g (placed src (off + sp)) last .visits)) =
-        from-original last x y m (λ j c d. m .framed j (clear-block j ne (omega arith) (omega (arith, whole-in))) (λ e. omega arith)) in
+        from-original last x y m (agree-of g src start off img last (m .len) (λ j c d. m .framed j (clear-block j ne (omega arith) (omega (arith, whole-in))) (λ e. omega arith))) in
         let b : countIn g src t pay last (listFrom left g (placed src (off + sp)) last .visits) ≡ behind-count =
-        list-count g src img last (m .len) (v .fine) hs t pay left (off + sp) (λ j c d. m .framed j (clear-block j ne (omega arith) (omega arith)) (λ e. omega (arith, mark-inside))) in
+        list-count g src img last (v .fine) t pay left (off + sp)
+        (agree-of g src (off + sp) (g .size) img last (m .len) (λ j c d. m .framed j (clear-block j ne (omega arith) (omega arith)) (λ e. omega (arith, mark-inside)))) in
         let k : Walked g dst img start (listing g dst img .visits) (to .offset) = ended g dst (g .size) img start (to .offset) (w .stop) (w .last) in
         let c : copiesIn g dst t pay last ≡ to-count + y =
-        to-end last x y m dst (g .size) start (v .block) (listing g dst img .visits) refl k (omega (arith, walk-le g dst img (v .fine) (listing g dst img .visits) start (to .offset) k, header-fits))
-        (λ j c d. m .framed j (inl d) (λ e. other-block j ne c (omega (arith, header-fits)) (omega (arith, mark-inside, whole-in)) e)) in
+        to-end last x y m dst (g .size) start (listing g dst img .visits) refl k (omega (arith, walk-le g dst img (v .fine) (listing g dst img .visits) start (to .offset) k, header-fits))
+        (agree-of g dst start (to .offset) img last (m .len) (λ j c d. m .framed j (inl d) (λ e. other-block j ne c (omega (arith, header-fits)) (omega (arith, mark-inside, whole-in)) e))) in
         omega (arith, a, b, c)
       where
         other-block : (j : ℕ) → src ≢ dst → address g dst start ≤ j → j < dst * g .size + g .size → p + deleteAt (g .granularity) < src * g .size + g .size → j ≡ p + deleteAt (g .granularity) → ⊥
@@ -241,10 +244,10 @@ module _ (g : Geometry) (h : ObjectHeader) (to : ObjectLocation) (room : ℕ) (t
         let j : start + length (w .listed .before) ≤ off = walk-le g src img (v .fine) (w .listed .before) start off (original-at .walked) in
         let s : src * g .size ≡ dst * g .size = ap (λ (b : ℕ). b * g .size) e in
         let a : copiesIn g src t pay last ≡ before-count + (x + countIn g src t pay last (listFrom left g (placed src (off + sp)) last .visits)) =
-        from-original last x y m (λ j c d. m .framed j (inl (omega arith)) (λ n. omega arith)) in
+        from-original last x y m (agree-of g src start off img last (m .len) (λ j c d. m .framed j (inl (omega arith)) (λ n. omega arith))) in
         let b : countIn g src t pay last (listFrom left g (placed src (off + sp)) last .visits) ≡ behind-count + y =
-        to-end last x y m src left (off + sp) hs behind-visits e k (omega (arith, original-at .fuel, header-fits, mark-inside))
-        (λ j c d. m .framed j (inl (omega arith)) (λ n. omega (arith, mark-inside))) in
+        to-end last x y m src left (off + sp) behind-visits e k (omega (arith, original-at .fuel, header-fits, mark-inside))
+        (agree-of g src (off + sp) (to .offset) img last (m .len) (λ j c d. m .framed j (inl (omega arith)) (λ n. omega (arith, mark-inside)))) in
         omega (arith, a, b)
 
     -- what does not change, and what the two places count

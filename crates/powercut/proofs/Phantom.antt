@@ -39,10 +39,10 @@ use Rattle.medium.proofs.Runs.{apply-append, leb-is}
 use Rattle.medium.proofs.Bytes.{ff-and, program-off, program-at, Misses, All-take, frame, length-apply, length-padded, getD-padded, getD-pad, words-cut, getD-part, length-part, length-units}
 use Rattle.medium.proofs.Places.{Laid, laid}
 use Rattle.medium.proofs.Checks.{within, fine-of-check}
-use Rattle.powercut.proofs.Reading.{seen-free, Got, read-back, header-back, header-read, headerOf}
+use Rattle.shown.proofs.Reading.{seen-free, Got, read-back, header-back, header-read, headerOf}
 use Rattle.powercut.specs.Stores.{typeUnits, payUnits, sizeUnits, before}
 use Rattle.powercut.proofs.Crash.{Given, type-clear, size-clear}
-use Rattle.powercut.proofs.Walk.{place, visit, spanAt, Stepped, next-back, info-back}
+use Rattle.shown.proofs.Walk.{place, visit, spanAt, Stepped, next-back, info-back}
 
 -- ---- the bytes of the payload, as far as it is stored
 

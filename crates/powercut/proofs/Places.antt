@@ -1,14 +1,14 @@
 -- Where an object's bytes lie, for all three granularities at once: after this file nothing splits on the granularity but one-liners.
-use mathlib.Core.Path.{_≡_, refl, sym, ap, _∙_}
+use mathlib.Core.Path.{_≡_, sym, ap, _∙_}
 use mathlib.Core.Logic.{_⊎_, inl, inr}
-use Prim.Native.Nat.{ℕ, zero, suc, _+_, _-_, _*_, _/_, _%_, _^_, _≤_, _<_}
+use Prim.Native.Nat.{ℕ, _+_, _-_, _*_, _/_, _%_, _≤_, _<_}
 use native.Mathlib.Nat.{mul-assoc}
 use native.Mathlib.Omega.{arith}
 use Rattle.medium.specs.declared.granularity.Granularity.{Granularity}
 use Rattle.medium.specs.declared.granularity.Granularity.the-variants.{Bit, Word1, Word4}
 use Rattle.medium.specs.declared.geometry.Geometry.{Geometry}
 use Rattle.medium.specs.Granularity.{widthOf, unitsIn, alignOf, header}
-use Rattle.medium.specs.Geometry.{limitOf, address}
+use Rattle.medium.specs.Geometry.{address}
 use Rattle.medium.proofs.Places.{even-add, quad-even}
 use Rattle.powercut.specs.Demand.{Clear}
 
@@ -58,12 +58,3 @@ address-even g b off h k = even-add (g .granularity) (b * g .size) off (quad-eve
 pub far-from : (p q n j : ℕ) → (p + n ≤ q) ⊎ (q + n ≤ p) → p ≤ j → j < p + n → Clear q (q + n) j
 far-from p q n j (inl h) a b = inl (omega arith)
 far-from p q n j (inr h) a b = inr (omega arith)
-
--- ---- the widths that are allowed
-
-pub limit-is : (s : ℕ) → 0 < s → s ≤ 3 → limitOf s ≡ 256 ^ s
-limit-is zero h k = absurd (omega arith)
-limit-is (suc zero) h k = refl
-limit-is (suc (suc zero)) h k = refl
-limit-is (suc (suc (suc zero))) h k = refl
-limit-is (suc (suc (suc (suc s)))) h k = absurd (omega arith)

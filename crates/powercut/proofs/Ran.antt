@@ -33,11 +33,13 @@ use Rattle.writer.specs.Writer.{noTail, withHeader, soundOf, allocate, appendab
 use Rattle.writer.specs.Moving.{sourceIn, sourceAt, chunk, turnsOf, copying, copyObject, moveObject}
 use Rattle.medium.proofs.Runs.{leb-is}
 use Rattle.medium.proofs.Bytes.{length-part, frame, length-apply}
+use Rattle.medium.proofs.Frame.{part-same}
+use Rattle.objects.proofs.Numbers.{length-bytes}
 use Rattle.medium.proofs.Split.{units-split, none-stored, part-add}
 use Rattle.medium.proofs.Places.{width-is, Laid, laid, even-add}
 use Rattle.medium.proofs.Checks.{Fine, admit-pass, within, fine-of-check}
 use Rattle.powercut.proofs.Places.{span, tail-room, Floored, floored, far-from}
-use Rattle.powercut.proofs.Reading.{stateSeen, part-same, length-bytes, read-yes, state-read, headerOf}
+use Rattle.shown.proofs.Reading.{stateSeen, read-yes, state-read, headerOf}
 use Rattle.powercut.specs.Stores.{typeUnits, payUnits, sizeUnits, markUnits, deleteUnits, moveUnits}
 use Rattle.powercut.proofs.Crash.{Given, copy-free, inside}
 
@@ -309,7 +311,7 @@ module _ (g : Geometry) (h : ObjectHeader) (to : ObjectLocation) (t : ObjectType
 
   chunk-same : (from n : ℕ) (m : List ℕ) → off ≤ from → from + n ≤ off + sp → Kept m → part (address g b from) n m ≡ part (address g b from) n img
   chunk-same from n m h1 h2 kept =
-      part-same img m (kept .length-kept) (address g b from) n (omega (arith, in-image)) (λ j x y. kept .bytes-kept j (omega arith) (omega arith))
+      part-same (address g b from) n img m (kept .length-kept) (omega (arith, in-image)) (λ j x y. kept .bytes-kept j (omega arith) (omega arith))
 
   -- what the copying loop leaves: its units, and a writer whose tail completes the payload
   record Copied (k cur : ℕ) (tl : List ℕ) (from rest : ℕ) (m : List ℕ) : Type 0 where

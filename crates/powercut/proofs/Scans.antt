@@ -3,7 +3,7 @@
 use mathlib.Core.Path.{_≡_, refl, sym, ap, ap₂, _∙_, subst}
 use mathlib.Core.Logic.{_⊎_, inl, inr, _≢_}
 use mathlib.Core.List.{List, [], _∷_, _++_}
-use Prim.Native.Nat.{ℕ, zero, suc, _+_, _-_, _*_, _%_, _^_, _≤_, _<_}
+use Prim.Native.Nat.{ℕ, zero, suc, _+_, _-_, _%_, _^_, _≤_, _<_}
 use native.Mathlib.Nat.{pow-succ', add-zero, mul-le-mul-right}
 use native.Mathlib.Omega.{arith}
 use lib.ListN.{length, take, getD}
@@ -20,34 +20,34 @@ use Rattle.medium.specs.Operation.{apply, done, refused}
 use Rattle.medium.specs.Medium.{part}
 use Rattle.objects.specs.declared.types.ObjectType.{ObjectType}
 use Rattle.objects.specs.declared.types.TypeRead.the-variants as ty
-use Rattle.objects.specs.declared.state.ObjectDataState.the-variants.{Untrusted, Valid}
-use Rattle.objects.specs.declared.state.CompositeObjectState.{CompositeObjectState}
+use Rattle.objects.specs.declared.state.ObjectDataState.the-variants.{Untrusted}
 use Rattle.objects.specs.declared.state.CompositeObjectState.the-variants.{Allocated}
 use Rattle.objects.specs.declared.location.ObjectLocation.{ObjectLocation}
 use Rattle.objects.specs.declared.header.ObjectHeader.{ObjectHeader}
 use Rattle.objects.specs.Numbers.{number, bytes, unsetOf}
 use Rattle.objects.specs.Types.{typeByte, typeOf}
 use Rattle.objects.specs.Header.{headerAt, payloadOf}
-use Rattle.objects.specs.Info.{found, none, infoAt, totalOf, spanOf}
-use Rattle.objects.specs.Listing.{placed, Visit, Stop, end, free, broken, Listing, listFrom, listing}
+use Rattle.objects.specs.Info.{found, none, infoAt, totalOf}
+use Rattle.objects.specs.Listing.{placed, Visit, end, free, broken, Listing, listFrom, listing}
 use Rattle.powercut.specs.Demand.{addressOf, payloadIn, copyOf, Clear, Movable, unitsTo}
-use Rattle.powercut.specs.Stores.{typeUnits, payUnits, sizeUnits, markUnits, before}
+use Rattle.powercut.specs.Stores.{typeUnits, payUnits, sizeUnits, before}
 use Rattle.powercut.specs.Listed.{Listable}
 use Rattle.powercut.specs.Again.{leftBy}
 use Rattle.powercut.specs.Scans.{stopAfter, Ended, Text, Second, payloadUnits, Scanned, Scans}
 use Rattle.medium.proofs.Runs.{apply-append, leb-is}
 use Rattle.medium.proofs.Bytes.{ff-and, Misses, All-take, frame, length-apply, getD-part, length-part, length-units, part-is, fits-up}
 use Rattle.medium.proofs.Places.{Laid, laid, width-is, align-even, align-least, even-align}
-use Rattle.medium.proofs.Checks.{Fine, within}
 use Rattle.powercut.proofs.Places.{span}
 use Rattle.powercut.proofs.Twice.{cut-stored}
-use Rattle.powercut.proofs.Reading.{stateSeen, sizeSeen, Stands, type-small, part-same, length-bytes, byte-bytes, unset-is, payload-set, size-says, state-read, headerOf, header-read, header-back, Told}
+use Rattle.shown.proofs.Reading.{stateSeen, sizeSeen, byte-bytes, unset-is, size-says, state-read, headerOf, header-read, header-back}
+use Rattle.shown.proofs.Agreeing.{agree-of}
+use Rattle.objects.proofs.Numbers.{length-bytes}
 use Rattle.powercut.proofs.Crash.{Given, one-long, type-clear, pay-clear, size-clear, pay-byte, copy-begun, copy-between, framed-copied}
 use Rattle.powercut.proofs.Ran.{Ready}
-use Rattle.powercut.proofs.Survive.{N, us, all-copied, cut-before, cut-copied, cut-between, copy-whole, span-is, units-are, fine-is, long, ready}
+use Rattle.powercut.proofs.Survive.{N, us, all-copied, cut-before, cut-copied, cut-between, copy-whole, units-are, ready}
 use Rattle.powercut.proofs.Again.{left-is}
-use Rattle.powercut.proofs.Walk.{place, spanAt, span-least, info-back, Walked, walk-le, ended, walk-same}
-use Rattle.powercut.proofs.Steps.{at-end, at-object, at-free, at-broken, free-fits, stop-behind}
+use Rattle.shown.proofs.Walk.{place, spanAt, span-least, info-back, Walked, walk-le, ended, walk-same}
+use Rattle.shown.proofs.Steps.{at-end, at-object, at-free, at-broken, free-fits, stop-behind}
 use Rattle.powercut.proofs.Phantom.{take-both, Partly, partly}
 use Rattle.powercut.proofs.Listed.{free-info}
 
@@ -296,7 +296,7 @@ module _ (g : Geometry) (h : ObjectHeader) (to : ObjectLocation) (room : ℕ) (t
   there k c =
       ap (λ (m : List ℕ). listing g dst m .stop) (left-is g h to t pay img r k)
       ∙ stop-behind g dst (last k) (fine k) visits start (to .offset) (g .size)
-      (walk-same g dst img (last k) (len k) (v .fine) (v .block) t pay visits start (to .offset) walked (λ j a b. off-copy k c j (inl b))) (omega (arith, few, fits))
+      (walk-same g dst img (last k) (v .fine) visits start (to .offset) walked (agree-of g dst start (to .offset) img (last k) (len k) (λ j a b. off-copy k c j (inl b)))) (omega (arith, few, fits))
       ∙ ap (λ (n : ℕ). listFrom n g (placed dst (to .offset)) (last k) .stop) fuel
 
   -- ---- behind it

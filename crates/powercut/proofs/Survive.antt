@@ -26,12 +26,14 @@ use Rattle.objects.specs.Header.{payloadOf}
 use Rattle.objects.specs.Info.{totalOf, spanOf}
 use Rattle.writer.specs.Moving.{moveObject}
 use Rattle.powercut.specs.Demand.{Whole, Unfinished, Gone, addressOf, payloadIn, copyOf, Clear, Movable, unitsBefore, unitsTo, Framed, Survives, Moved, Demand}
+use Rattle.objects.proofs.Numbers.{length-bytes}
 use Rattle.medium.proofs.Runs.{prefix-flash, cost-flash, leb-is, leb-yes, leb-no}
 use Rattle.medium.proofs.Bytes.{length-units, length-part, length-apply}
 use Rattle.medium.proofs.Places.{Laid, laid, quad-even}
 use Rattle.medium.proofs.Checks.{Fine, within, fine-of-check}
 use Rattle.powercut.proofs.Places.{span, up-to, address-even}
-use Rattle.powercut.proofs.Reading.{stateSeen, Stands, length-bytes, size-lt, payload-small, payload-set, Told, header-back, headerOf, whole-of, unfinished-of, gone-of}
+use Rattle.shown.proofs.Reading.{stateSeen, Stands, size-lt, payload-small, payload-set, Told, header-back, headerOf}
+use Rattle.powercut.proofs.Whole.{whole-of, unfinished-of, gone-of}
 use Rattle.powercut.specs.Stores.{typeUnits, payUnits, sizeUnits, markUnits, deleteUnits, before, moveUnits, Ordered}
 use Rattle.powercut.specs.Call.{Survived}
 use Rattle.powercut.proofs.Crash.{one-long, copied, everything, original-before, copy-before, original-between, copy-between, original-after, size-after, copy-after, framed-copied, framed-moved}

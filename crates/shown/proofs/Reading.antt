@@ -1,19 +1,18 @@
 -- How an object reads, from the bytes at its address: what `headerAt` and the readers answer is decided by those bytes, and the other way about.
 use mathlib.Core.Path.{_≡_, refl, sym, ap, _∙_}
-use mathlib.Core.Logic.{_⊎_, inl, inr}
 use mathlib.Core.Bool.{Bool, true, false, _&&_}
 use mathlib.Core.List.{List, [], _∷_}
-use Prim.Native.Nat.{ℕ, zero, suc, _+_, _-_, _/_, _^_, _≤_, _<_, min}
+use Prim.Native.Nat.{ℕ, zero, suc, _+_, _-_, _/_, _^_, _≤_, _<_}
 use native.Mathlib.Nat.{pow-le-pow-right, pow-succ', add-zero}
 use native.Mathlib.Omega.{arith}
-use lib.ListN.{length, getD, length-take, length-drop}
+use lib.ListN.{length, getD}
 use lib.Dec.{leb, ltb, eqb}
 use borrow.Author.Tests.{ltb-true, leb-true, eqb-true, eqb-false, le-leb, lt-ltb, ne-eqb}
 use Rattle.medium.specs.declared.granularity.Granularity.{Granularity}
 use Rattle.medium.specs.declared.granularity.Granularity.the-variants.{Bit, Word1, Word4}
 use Rattle.medium.specs.declared.geometry.Geometry.{Geometry}
 use Rattle.medium.specs.Granularity.{pick, widthOf, finishAt, deleteAt, finishMark, sizeAt, header}
-use Rattle.medium.specs.Geometry.{checkOf, address}
+use Rattle.medium.specs.Geometry.{limitOf, checkOf, address}
 use Rattle.medium.specs.Operation.{Answer, done, refused, andThen}
 use Rattle.medium.specs.Medium.{part, readable, readAt}
 use Rattle.objects.specs.declared.types.ObjectType.{ObjectType}
@@ -31,13 +30,10 @@ use Rattle.objects.specs.declared.header.ObjectHeader.{ObjectHeader}
 use Rattle.objects.specs.Numbers.{number, bytes, unsetOf}
 use Rattle.objects.specs.Types.{typeByte, typeOf, markOf, pairOf, marksOf, compositeOf, stateIn}
 use Rattle.objects.specs.Header.{stateAt, sizedAt, headerAt, payloadOf}
-use Rattle.objects.specs.Info.{infoAt}
-use Rattle.objects.specs.Reader.{readerAt, remainingOf, leftOf, readSome}
-use Rattle.powercut.specs.Demand.{readerOf, Whole, Unfinished, Gone}
-use Rattle.medium.proofs.Bytes.{part-is, getD-part, length-part}
-use Rattle.medium.proofs.Places.{Laid, laid}
-use Rattle.medium.proofs.Checks.{Sound, admitted, admit-pass, within, fine-of-check}
-use Rattle.powercut.proofs.Places.{limit-is}
+use Rattle.medium.proofs.Bytes.{getD-part, length-part}
+use Rattle.medium.proofs.Frame.{part-same}
+use Rattle.medium.proofs.Places.{Laid}
+use Rattle.medium.proofs.Checks.{admitted, admit-pass}
 
 -- ---- what the bytes at an address say
 
@@ -141,25 +137,16 @@ pub seen-same : (g : Granularity) (a : ℕ) (img last : List ℕ) → getD last 
 seen-same g a img last p q r = rw (p, q, r)
 
 module _ (img last : List ℕ) (len : length last ≡ length img) where
-  pub part-same : (b n : ℕ) → b + n ≤ length img → ((j : ℕ) → b ≤ j → j < b + n → getD last j 0 ≡ getD img j 0) → part b n last ≡ part b n img
-  part-same b n h f =
-      part-is b n last (part b n img) (omega arith) (length-part b n img h)
-      (λ i hi. f (b + i) (omega arith) (omega arith) ∙ sym (getD-part b n img i 0 hi))
-
   pub stands-same : (g : Granularity) (s a : ℕ) (st : CompositeObjectState) (size : ℕ) (pay : List ℕ) (l : Laid g s (length pay)) (h : a + header g s + length pay ≤ length img)
       → ((j : ℕ) → a ≤ j → j < a + header g s + length pay → getD last j 0 ≡ getD img j 0) → Stands g s a st size pay img → Stands g s a st size pay last
   stands-same g s a st size pay l h f w =
       record {
         state = seen-same g a img last (f a (omega arith) (omega (arith, l))) (f (a + finishAt g) (omega arith) (omega (arith, l))) (f (a + deleteAt g) (omega arith) (omega (arith, l))) ∙ w .state;
-        size-is = ap number (part-same (a + sizeAt g) s (omega (arith, l)) (λ j b c. f j (omega arith) (omega (arith, l)))) ∙ w .size-is;
-        bytes-are = part-same (a + header g s) (length pay) h (λ j b c. f j (omega arith) c) ∙ w .bytes-are;
+        size-is = ap number (part-same (a + sizeAt g) s img last len (omega (arith, l)) (λ j b c. f j (omega arith) (omega (arith, l)))) ∙ w .size-is;
+        bytes-are = part-same (a + header g s) (length pay) img last len h (λ j b c. f j (omega arith) c) ∙ w .bytes-are;
       }
 
 -- ---- numbers as bytes
-
-pub length-bytes : (s n : ℕ) → length (bytes s n) ≡ s
-length-bytes zero n = refl
-length-bytes (suc s) n = ap suc (length-bytes s (n / 256))
 
 pub number-bytes : (s n : ℕ) → n < 256 ^ s → number (bytes s n) ≡ n
 number-bytes zero n h = omega arith
@@ -177,6 +164,14 @@ number-lt (b ∷ bs) h = omega (arith, pow-succ' 256 (length bs), h 0 (omega ari
 pub size-lt : (g : Granularity) (s a : ℕ) (img : List ℕ) → ((j : ℕ) → getD img j 0 < 256) → a + sizeAt g + s ≤ length img → sizeSeen g s a img < 256 ^ s
 size-lt g s a img hb hl =
     rw (length-part (a + sizeAt g) s img hl) at (number-lt (part (a + sizeAt g) s img) (λ i k. rw (getD-part (a + sizeAt g) s img i 0 (omega (arith, length-part (a + sizeAt g) s img hl))) (hb (a + sizeAt g + i))))
+
+-- a width that is allowed
+pub limit-is : (s : ℕ) → 0 < s → s ≤ 3 → limitOf s ≡ 256 ^ s
+limit-is zero h k = absurd (omega arith)
+limit-is (suc zero) h k = refl
+limit-is (suc (suc zero)) h k = refl
+limit-is (suc (suc (suc zero))) h k = refl
+limit-is (suc (suc (suc (suc s)))) h k = absurd (omega arith)
 
 pub unset-is : (s : ℕ) → 0 < s → s ≤ 3 → (unsetOf s ≡ 256 ^ s - 1) × (256 ≤ 256 ^ s)
 unset-is s h k = (ap (λ (n : ℕ). n - 1) (limit-is s h k), pow-le-pow-right {n = 256} (omega arith) {i = 1} h)
@@ -293,69 +288,3 @@ header-back g at m h e =
       size-is = ap (λ (i : ℕ). number (part i (g .s) m)) (sym a) ∙ ap number (sym (c .bytes-are)) ∙ ap (λ (k : ObjectHeader). k .size) r;
       located = ap (λ (k : ObjectHeader). k .location) (sym r);
     }
-
--- ---- what the readers of `specs/Demand.antt` answer
-
--- a read of a payload that stands in the image
-part-of : (a c n : ℕ) (pay m : List ℕ) → part a (length pay) m ≡ pay → a + length pay ≤ length m → c ≤ length pay → part (a + c) (min n (length pay - c)) m ≡ part c n pay
-part-of a c n pay m e l h =
-    part-is (a + c) (min n (length pay - c)) m (part c n pay) (omega arith) (simp (length-take, length-drop))
-    (λ i k. let j : a + c + i ≡ a + (c + i) = omega arith in
-    ap (λ (x : ℕ). getD m x 0) j ∙ sym (getD-part a (length pay) m (c + i) 0 (omega arith)) ∙ ap (λ (bs : List ℕ). getD bs (c + i) 0) e ∙ sym (getD-part c n pay i 0 (omega arith)))
-
-module _ (g : Geometry) (m : List ℕ) (f : checkOf g (length m) ≡ 0) where
-  -- a finished object that stands in a block reads whole
-  module _ (h : ObjectHeader) (t : ObjectType) (pay : List ℕ) (fin : h .state ≡ Allocated t Valid) (size : payloadOf (g .s) h ≡ length pay) (block : h .location .block < g .count)
-      (fits : h .location .offset + header (g .granularity) (g .s) + length pay ≤ g .size)
-      (st : Stands (g .granularity) (g .s) (address g (h .location .block) (h .location .offset)) (Allocated t Valid) (h .size) pay m) where
-    sound : Sound g
-    sound = fine-of-check g (length m) (checkOf g (length m)) refl f .sound
-
-    l : Laid (g .granularity) (g .s) (length pay)
-    l = laid (g .granularity) (g .s) (length pay) (sound .s-most)
-
-    header-is : headerAt g (h .location) m ≡ done h
-    header-is = header-read g (h .location) m (h .state) (h .size) f block (omega (arith, l)) (st .state ∙ ap done (sym fin)) (st .size-is)
-
-    read-is : (c n : ℕ) → c ≤ length pay
-        → readSome g (readerOf h c) n m ≡ done (record { bytes = part c n pay; reader = readerOf h (c + min n (length pay - c)) })
-    unfolding readSome remainingOf leftOf
-    read-is c n k =
-        let a : address g (h .location .block) (h .location .offset + header (g .granularity) (g .s) + c) ≡ address g (h .location .block) (h .location .offset) + header (g .granularity) (g .s) + c = omega arith in
-        let room : address g (h .location .block) (h .location .offset) + header (g .granularity) (g .s) + length pay ≤ length m =
-        omega (arith, within (h .location .block) (h .location .offset) (header (g .granularity) (g .s) + length pay) (g .size) (g .count) (length m) block (omega arith) (fine-of-check g (length m) (checkOf g (length m)) refl f .whole)) in
-        let small : c ≤ 65536 = omega (arith, sound .small) in
-        rw (f, le-leb c 65536 small, size, le-leb c (length pay) k, read-yes g (h .location .block) (h .location .offset + header (g .granularity) (g .s) + c) (min n (length pay - c)) m f block (omega arith))
-        (ap (λ (bs : List ℕ). done (record { bytes = bs; reader = readerOf h (c + min n (length pay - c)) }))
-        (ap (λ (x : ℕ). part x (min n (length pay - c)) m) a ∙ part-of (address g (h .location .block) (h .location .offset) + header (g .granularity) (g .s)) c n pay m (st .bytes-are) room k))
-
-    pub whole-of : Whole g h t pay m
-    unfolding infoAt readerAt
-    whole-of =
-        record {
-          finished = fin;
-          header = header-is;
-          info = rw (header-is, fin);
-          size = size;
-          reader = rw (header-is, fin);
-          reads = read-is;
-        }
-
-  module _ (at : ObjectLocation) (t : ObjectType) (block : at .block < g .count) (fits : at .offset + sizeAt (g .granularity) + g .s ≤ g .size) where
-    pub unfinished-of : (stateSeen (g .granularity) (address g (at .block) (at .offset)) m ≡ done Free) ⊎ (stateSeen (g .granularity) (address g (at .block) (at .offset)) m ≡ done (Allocated t Untrusted))
-        → Unfinished g at t m
-    unfolding infoAt readerAt
-    unfinished-of (inl e) =
-        let r = header-read g at m Free (sizeSeen (g .granularity) (g .s) (address g (at .block) (at .offset)) m) f block fits e refl in
-        record { size = 0; info = inl (rw r); reader = rw r }
-    unfinished-of (inr e) =
-        let r = header-read g at m (Allocated t Untrusted) (sizeSeen (g .granularity) (g .s) (address g (at .block) (at .offset)) m) f block fits e refl in
-        record { size = sizeSeen (g .granularity) (g .s) (address g (at .block) (at .offset)) m; info = inr (rw r); reader = rw r }
-
-  pub gone-of : (h : ObjectHeader) (t : ObjectType) → h .location .block < g .count → h .location .offset + sizeAt (g .granularity) + g .s ≤ g .size
-      → stateSeen (g .granularity) (address g (h .location .block) (h .location .offset)) m ≡ done (Allocated t Deleted)
-      → sizeSeen (g .granularity) (g .s) (address g (h .location .block) (h .location .offset)) m ≡ h .size → Gone g h t m
-  unfolding infoAt readerAt
-  gone-of h t block fits e n =
-      let r = header-read g (h .location) m (Allocated t Deleted) (h .size) f block fits e n in
-      record { info = rw r; reader = rw r }

@@ -13,9 +13,9 @@ use Rattle.medium.specs.Operation.{Answer, done, refused}
 use Rattle.objects.specs.declared.header.ObjectHeader.{ObjectHeader}
 use Rattle.objects.specs.declared.iterator.Next.{Next}
 use Rattle.objects.specs.Info.{Info, found, none, infoAt}
-use Rattle.objects.specs.Listing.{placed, nextIn, Visit, Stop, end, free, broken, Listing, stopped, visited, listBy, listFrom}
+use Rattle.objects.specs.Listing.{placed, nextIn, Visit, end, free, broken, Listing, stopped, visited, listBy, listFrom}
 use Rattle.medium.proofs.Runs.{leb-is}
-use Rattle.powercut.proofs.Walk.{place, spanAt, next-in, next-end, Walked}
+use Rattle.shown.proofs.Walk.{place, spanAt, next-in, next-end, Walked}
 
 module _ (g : Geometry) (b : ℕ) (m : List ℕ) (fine : checkOf g (length m) ≡ 0) where
   -- no header fits here any more

@@ -1,0 +1,4 @@
+pub mod Reading
+pub mod Agreeing
+pub mod Walk
+pub mod Steps
