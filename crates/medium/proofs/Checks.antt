@@ -132,13 +132,24 @@ admit-stop g room next r e n = e ∙ go (geometryOk g) (eqb (g .size * g .count)
     go true false h = refl
     go false b h = refl
 
+-- where all that comes next passes, so does the check
+pub passed : (g : Geometry) (room next : ℕ) → admit g room next ≡ 0 → checkOf g room ≡ 0
+unfolding admit
+passed g room next e = go (geometryOk g) (eqb (g .size * g .count) room) e
+  where
+    go : (a b : Bool) → pick a (pick b next 7) 6 ≡ 0 → pick {A = ℕ} a (pick {A = ℕ} b 0 7) 6 ≡ 0
+    go true true h = refl
+    go true false h = absurd (omega arith)
+    go false b h = absurd (omega arith)
+
 -- ---- where a range of a block lies
 
 -- a range of a block ends within the image
 pub within : (b o n size count room : ℕ) → b < count → o + n ≤ size → size * count ≡ room → b * size + o + n ≤ room
 within b o n size count room h k e = omega (arith, mul-le-mul-right size h, suc-mul b size, mul-comm size count)
 
-and-two : (a b : Bool) → pick {A = ℕ} (a && b) 0 3 ≡ 0 → (a ≡ true) × (b ≡ true)
+-- both of two tests
+pub and-two : (a b : Bool) → pick {A = ℕ} (a && b) 0 3 ≡ 0 → (a ≡ true) × (b ≡ true)
 and-two true true p = (refl, refl)
 and-two true false p = absurd (omega arith)
 and-two false b p = absurd (omega arith)
@@ -214,9 +225,5 @@ fine-of-read g b o n img bs e = go (eqb (readable g (length img) b o n) 0) refl 
 
 -- a write that is not refused has passed the check
 pub check-of-write : (g : Geometry) (room b o n : ℕ) → writable g room b o n ≡ 0 → checkOf g room ≡ 0
-unfolding writable admit
-check-of-write g room b o n e =
-    let w = widthOf (g .granularity) in
-    let p = picked (geometryOk g) _ 5 e in
-    let q = picked (eqb (g .size * g .count) room) _ 6 (p .1) in
-    rw (p .0, q .0)
+unfolding writable
+check-of-write g room b o n e = passed g room _ e

@@ -68,6 +68,11 @@ run-frame {A} (Units k) o img j d h = go (leb (cost flash (o img .events)) k)
     go true = frame j d (o img .events) img h
     go false = rw (prefix-flash k (o img .events)) (frame j d (take k (o img .events)) img (All-take (Misses j) k (o img .events) h))
 
+-- and with power the image keeps its length
+pub run-long : {A : Type 0} (o : Op A) (img : List ℕ) → length (run Absent o img .state) ≡ length img
+unfolding run
+run-long o img = length-apply (o img .events) img
+
 -- ---- no call touches a byte outside the block that it names
 
 -- what both branches of a test miss is missed
@@ -111,3 +116,18 @@ other-block size b c i n h = go (leb-is (suc b) c)
         less : (b ≤ c) ⊎ (c < b) → suc c ≤ b
         less (inl y) = absurd (n (omega arith))
         less (inr y) = y
+
+-- ---- nor one beside its own units
+
+-- the units of a write miss every byte but theirs
+write-units-miss : (g : Geometry) (b o : ℕ) (bs img : List ℕ) (j : ℕ) → Off (address g b o) (alignOf (widthOf (g .granularity)) (length bs)) j
+    → All (Misses j) (write g b o bs img .events)
+unfolding write putting ask
+write-units-miss g b o bs img j h =
+    either j (eqb (writable g (length img) b o (length bs)) 0) _ _ img
+    (λ _. store-miss (widthOf (g .granularity)) (width-is (g .granularity) .0) (address g b o) bs j h) tt
+
+-- so they leave it
+pub write-beside : (f : Fuse) (g : Geometry) (b o : ℕ) (bs img : List ℕ) (j d : ℕ) → Off (address g b o) (alignOf (widthOf (g .granularity)) (length bs)) j
+    → getD (run f (write g b o bs) img .state) j d ≡ getD img j d
+write-beside f g b o bs img j d h = run-frame f (write g b o bs) img j d (write-units-miss g b o bs img j h)

@@ -7,4 +7,5 @@ pub mod Frame
 pub mod Split
 pub mod Places
 pub mod Checks
+pub mod Ranges
 pub mod Stores

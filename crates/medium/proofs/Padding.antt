@@ -3,7 +3,7 @@ use mathlib.Core.Path.{_≡_, refl, sym, ap, ap₂, _∙_}
 use mathlib.Core.List.{List, [], _∷_, _++_}
 use Prim.Native.Nat.{ℕ, zero, suc, _+_, _-_, _*_, _<_}
 use native.Mathlib.Omega.{arith}
-use lib.ListN.{length, getD, replicate}
+use lib.ListN.{length, getD, take, replicate}
 use lib.Bits.{and-le-l}
 use Rattle.medium.specs.Granularity.{unitsIn}
 use Rattle.medium.specs.Units.{FlashUnit, programmed, erased, over, program, blank, under, padded, unitsOf}
@@ -13,6 +13,25 @@ use Rattle.medium.proofs.Bytes.{and-ff, program-next, store-whole}
 -- every element is below 256
 abbrev pub AreBytes : List ℕ → Type 0
 AreBytes l = (j : ℕ) → getD l j 0 < 256
+
+-- ---- lists of bytes
+
+pub cons-bytes : (x : ℕ) (xs : List ℕ) → x < 256 → AreBytes xs → AreBytes (x ∷ xs)
+cons-bytes x xs h k zero = h
+cons-bytes x xs h k (suc j) = k j
+
+pub append-bytes : (xs ys : List ℕ) → AreBytes xs → AreBytes ys → AreBytes (xs ++ ys)
+append-bytes [] ys h k = k
+append-bytes (x ∷ xs) ys h k = cons-bytes x (xs ++ ys) (h 0) (append-bytes xs ys (λ j. h (suc j)) k)
+
+pub take-bytes : (n : ℕ) (xs : List ℕ) → AreBytes xs → AreBytes (take n xs)
+take-bytes zero xs h j = omega arith
+take-bytes (suc n) [] h j = omega arith
+take-bytes (suc n) (x ∷ xs) h j = cons-bytes x (take n xs) (h 0) (take-bytes n xs (λ i. h (suc i))) j
+
+pub ff-bytes : (n : ℕ) → AreBytes (replicate n 255)
+ff-bytes zero j = omega arith
+ff-bytes (suc n) j = cons-bytes 255 (replicate n 255) (omega arith) (ff-bytes n) j
 
 -- ---- whatever is stored, an image of bytes stays one
 

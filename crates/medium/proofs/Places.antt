@@ -5,22 +5,22 @@ use native.Mathlib.Nat.{div-mul-le-self}
 use native.Mathlib.Omega.{arith}
 use Rattle.medium.specs.declared.granularity.Granularity.{Granularity}
 use Rattle.medium.specs.declared.granularity.Granularity.the-variants.{Bit, Word1, Word4}
-use Rattle.medium.specs.Granularity.{widthOf, unitsIn, alignOf, finishAt, deleteAt, sizeAt, header, blockHeader, typeAt}
+use Rattle.medium.specs.Granularity.{widestUnit, longestState, longestObjectHeader, longestBlockHeader, widthOf, unitsIn, alignOf, finishAt, deleteAt, sizeAt, header, blockHeader, typeAt}
 
 -- ---- widths
 
--- a unit has one to four bytes
-pub width-is : (k : Granularity) → (1 ≤ widthOf k) × (widthOf k ≤ 4)
+-- a unit has a byte or more, and no more than the widest
+pub width-is : (k : Granularity) → (1 ≤ widthOf k) × (widthOf k ≤ widestUnit)
 width-is Bit = omega arith
 width-is Word1 = omega arith
 width-is Word4 = omega arith
 
--- whole units take at most three bytes more
-pub align-le : (w n : ℕ) → w ≤ 4 → alignOf w n ≤ n + 3
+-- whole units take less than one unit more
+pub align-le : (w n : ℕ) → w ≤ widestUnit → alignOf w n ≤ n + (widestUnit - 1)
 align-le w n h = omega (arith, div-mul-le-self (n + (w - 1)) w)
 
 -- the same of a count of units that was computed
-pub taken-le : (w n u : ℕ) → u ≡ unitsIn w n → w ≤ 4 → u * w ≤ n + 3
+pub taken-le : (w n u : ℕ) → u ≡ unitsIn w n → w ≤ widestUnit → u * w ≤ n + (widestUnit - 1)
 taken-le w n u e h = rw e (align-le w n h)
 
 -- ---- an object: type, marks, size and payload lie apart, in this order, on whole units
@@ -28,7 +28,7 @@ taken-le w n u e h = rw e (align-le w n h)
 -- the facts, for a size field of s bytes and a payload of n
 pub record Laid (k : Granularity) (s n : ℕ) : Type 0 where
   pub pos : 0 < widthOf k
-  pub narrow : widthOf k ≤ 4
+  pub narrow : widthOf k ≤ widestUnit
   pub one : alignOf (widthOf k) 1 ≡ widthOf k
   pub type-finish : widthOf k ≤ finishAt k
   pub type-delete : widthOf k ≤ deleteAt k
@@ -36,7 +36,8 @@ pub record Laid (k : Granularity) (s n : ℕ) : Type 0 where
   pub delete-size : deleteAt k + widthOf k ≤ sizeAt k
   pub size-plain : sizeAt k + s ≤ header k s
   pub size-header : sizeAt k + alignOf (widthOf k) s ≤ header k s
-  pub short : header k s ≤ 16
+  pub state-short : sizeAt k ≤ longestState
+  pub short : header k s ≤ longestObjectHeader
   pub header-span : header k s + alignOf (widthOf k) n ≡ alignOf (widthOf k) (header k s + n)
   pub near : header k s + n ≤ alignOf (widthOf k) (header k s + n)
   pub finish-even : finishAt k % widthOf k ≡ 0
@@ -57,7 +58,7 @@ pub record Headed (k : Granularity) : Type 0 where
   pub type-header : typeAt k + widthOf k ≤ blockHeader k
   pub type-even : typeAt k % widthOf k ≡ 0
   pub block-even : blockHeader k % widthOf k ≡ 0
-  pub block-short : blockHeader k ≤ 12
+  pub block-short : blockHeader k ≤ longestBlockHeader
 
 -- the block header of every granularity
 pub headed : (k : Granularity) → Headed k

@@ -218,6 +218,16 @@ value-of {W} {A} f o img i r a f′ e d = go f (sym (rw d at e))
     go Absent h = ap (λ (x : EndIn (W .State) A). x .answer) h
     go (Units k) h = lost (leb (cost W (o img .events)) k) k h
 
+-- and a run that is done leaves what all its events leave
+pub run-done : {W : World} {A : Type 0} (f : Fuse) (o : OpIn W A) (s : W .State) (a : A) → run f o s .answer ≡ done a → run f o s .state ≡ run Absent o s .state
+unfolding run
+run-done Absent o s a e = refl
+run-done {W} (Units k) o s a e = go (leb (cost W (o s .events)) k) e
+  where
+    go : (t : Bool) → cutBy {W = W} t k (o s) s .answer ≡ done a → cutBy {W = W} t k (o s) s .state ≡ happen W (o s .events) s
+    go true h = refl
+    go false h = let z : _≡_ {A = ℕ} 0 1 = cc in absurd (omega arith)
+
 -- a sequence that gave b: the value between its steps
 pub record Bound {W : World} {A B : Type 0} (o : OpIn W A) (p : A → OpIn W B) (img : W .State) (b : B) : Type 0 where
   pub value : A

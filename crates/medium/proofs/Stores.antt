@@ -185,6 +185,12 @@ erase-done g image f b r p u q after e z ep eu eq ea = rw (← e, eq-eqb r 0 z, 
     go (Units zero) = ap (λ (i : List ℕ). record { answer = refused 8; fuse = Units 0; state = i }) (ap (λ (n : ℕ). under (b * g .size) (blank n) image) (zero-mul (g .size)) ∙ none (b * g .size) image)
     go (Units (suc k)) = rw (leb-yes {m = 1} {n = suc k} (omega arith)) (ap (λ (i : List ℕ). record { answer = done tt; fuse = Units (suc k - 1); state = i }) one)
 
+-- an erase with power
+pub erase-run : (g : Geometry) (b : ℕ) (img : List ℕ) → erasable g (length img) b ≡ 0
+    → run Absent (erase g b) img ≡ record { answer = done tt; fuse = Absent; state = under (b * g .size) (blank (g .size)) img }
+unfolding erase run putting
+erase-run g b img e = rw e
+
 -- what a read gives
 pub read-done : (g : Geometry) (image : List ℕ) (b o n r : ℕ) (after : List ℕ) → r ≡ readable g (length image) b o n → r ≡ 0 → after ≡ take n (drop (b * g .size + o) image) → done after ≡ readAt g b o n image
 unfolding readAt

@@ -12,6 +12,20 @@ abbrev pub pick : {A : Type 0} → Bool → A → A → A
 pick true a b = a
 pick false a b = b
 
+-- ---- the most that any granularity takes: a unit, the bytes of an object's state, an object header, a block header
+
+abbrev pub widestUnit : ℕ
+widestUnit = 4
+
+abbrev pub longestState : ℕ
+longestState = 12
+
+abbrev pub longestObjectHeader : ℕ
+longestObjectHeader = 16
+
+abbrev pub longestBlockHeader : ℕ
+longestBlockHeader = 12
+
 -- ---- "granularity 0, 1 or 4", in the geometry record
 
 abbrev pub byteOf : Granularity → ℕ

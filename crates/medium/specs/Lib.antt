@@ -4,4 +4,5 @@ pub mod Fuse
 pub mod Units
 pub mod Operation
 pub mod Medium
+pub mod Bench
 pub mod Rows

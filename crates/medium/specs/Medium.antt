@@ -51,6 +51,11 @@ readAt g b o n img =
     let bs = part (address g b o) n img in
     pick (eqb r 0) (done bs) (refused r)
 
+-- what is lent of a read's bytes: all, or none where it is refused
+abbrev pub lent : Answer (List ℕ) → List ℕ
+lent (done bs) = bs
+lent (refused n) = []
+
 unfoldable pub write : Geometry → ℕ → ℕ → List ℕ → Op (Unit {0})
 write g b o bs img =
     let r = writable g (length img) b o (length bs) in

@@ -1,51 +1,23 @@
 -- The medium's own rows, over the definitions that the contracts cite: images of 1,024 bytes, blocks of 256.
-use mathlib.Core.Bool.{Bool, true, false, _&&_}
+use mathlib.Core.Bool.{Bool, true}
 use mathlib.Core.Path.{_≡_, refl}
-use mathlib.Core.List.{List, [], _∷_, _++_}
-use Prim.Native.Nat.{ℕ, _+_, _-_}
-use lib.ListN.{length, replicate}
+use mathlib.Core.List.{List, [], _∷_}
+use Prim.Native.Nat.{ℕ}
+use lib.ListN.{replicate}
 use lib.Dec.{eqb}
-use Rattle.medium.specs.declared.granularity.Granularity.{Granularity}
 use Rattle.medium.specs.declared.granularity.Granularity.the-variants.{Bit, Word1, Word4}
 use Rattle.medium.specs.declared.geometry.Geometry.{Geometry}
-use Rattle.medium.specs.declared.fuse.Fuse.{Fuse}
 use Rattle.medium.specs.declared.fuse.Fuse.the-variants.{Absent, Units}
 use Rattle.medium.specs.Geometry.{geometryOk, admit, fitOf}
-use Rattle.medium.specs.Operation.{Answer, done, refused, Op, ask, putting, run, numberOf}
-use Rattle.medium.specs.Medium.{readable, writable, erasable, alignedOf, readAt, write, erase}
-
-abbrev same : List ℕ → List ℕ → Bool
-same [] [] = true
-same [] (y ∷ ys) = false
-same (x ∷ xs) [] = false
-same (x ∷ xs) (y ∷ ys) = eqb x y && same xs ys
-
-abbrev all : List Bool → Bool
-all [] = true
-all (b ∷ bs) = b && all bs
-
-abbrev geometry : Granularity → Geometry
-geometry k = record { granularity = k; s = 1; c = 1; size = 256; count = 4 }
+use Rattle.medium.specs.Operation.{Answer, done, refused, ask, putting, run}
+use Rattle.medium.specs.Medium.{readable, writable, erasable, alignedOf, readAt, lent, write, erase}
+use Rattle.medium.specs.Bench.{four, filled, holding, all, same, row}
 
 abbrev sized : ℕ → Geometry
 sized n = record { granularity = Bit; s = 1; c = 1; size = n; count = 4 }
 
--- an image all of one byte, but for some at an address
-abbrev filled : ℕ → ℕ → List ℕ → List ℕ
-filled x a bs = replicate a x ++ bs ++ replicate (1024 - (a + length bs)) x
-
 abbrev plain : ℕ → List ℕ
-plain x = filled x 0 []
-
-abbrev left : Fuse → ℕ
-left Absent = 0
-left (Units n) = n
-
--- a store on an image: the number, the units that are left, the image
-abbrev row : Fuse → Op (Unit {0}) → List ℕ → ℕ → ℕ → List ℕ → Bool
-row f o img number units after =
-    let e = run f o img in
-    eqb (numberOf (e .answer)) number && eqb (left (e .fuse)) units && same (e .state) after
+plain x = replicate 1024 x
 
 abbrev bytesIn : Answer (List ℕ) → List ℕ
 bytesIn (done bs) = bs
@@ -64,34 +36,36 @@ five = 0x11 ∷ 0x22 ∷ 0x33 ∷ 0x44 ∷ 0x55 ∷ []
 abbrev pub table : List Bool
 table =
     -- a byte a unit, and what there is power for: 8 with the first two
-    row (Units 5) (write (geometry Bit) 1 8 three) (plain 0xFF) 0 2 (filled 0xFF 264 three)
-    ∷ row (Units 2) (write (geometry Word1) 1 8 three) (plain 0xFF) 8 0 (filled 0xFF 264 (0x41 ∷ 0x42 ∷ []))
-    ∷ row (Units 0) (write (geometry Bit) 1 8 three) (plain 0xFF) 8 0 (plain 0xFF)
+    row (Units 5) (write (four Bit) 1 8 three) (plain 0xFF) 0 (Units 2) (holding 1024 264 three)
+    ∷ row (Units 2) (write (four Word1) 1 8 three) (plain 0xFF) 8 (Units 0) (holding 1024 264 (0x41 ∷ 0x42 ∷ []))
+    ∷ row (Units 0) (write (four Bit) 1 8 three) (plain 0xFF) 8 (Units 0) (plain 0xFF)
     -- old AND new
-    ∷ row Absent (write (geometry Bit) 0 0 (0xF0 ∷ 0x3C ∷ [])) (plain 0x5A) 0 0 (filled 0x5A 0 (0x50 ∷ 0x18 ∷ []))
+    ∷ row Absent (write (four Bit) 0 0 (0xF0 ∷ 0x3C ∷ [])) (plain 0x5A) 0 Absent (filled 0x5A 1024 0 (0x50 ∷ 0x18 ∷ []))
     -- under Word(4) a word a unit, padded with FF, which leaves what stands there
-    ∷ row (Units 5) (write (geometry Word4) 1 12 three) (plain 0xFF) 0 4 (filled 0xFF 268 three)
-    ∷ row (Units 5) (write (geometry Word4) 1 12 three) (plain 0x0F) 0 4 (filled 0x0F 268 (0x01 ∷ 0x02 ∷ 0x03 ∷ []))
-    ∷ row (Units 1) (write (geometry Word4) 1 12 five) (plain 0xFF) 8 0 (filled 0xFF 268 (0x11 ∷ 0x22 ∷ 0x33 ∷ 0x44 ∷ []))
+    ∷ row (Units 5) (write (four Word4) 1 12 three) (plain 0xFF) 0 (Units 4) (holding 1024 268 three)
+    ∷ row (Units 5) (write (four Word4) 1 12 three) (plain 0x0F) 0 (Units 4) (filled 0x0F 1024 268 (0x01 ∷ 0x02 ∷ 0x03 ∷ []))
+    ∷ row (Units 1) (write (four Word4) 1 12 five) (plain 0xFF) 8 (Units 0) (holding 1024 268 (0x11 ∷ 0x22 ∷ 0x33 ∷ 0x44 ∷ []))
     -- an erase is one unit
-    ∷ row (Units 1) (erase (geometry Bit) 2) (plain 0) 0 0 (filled 0 512 (replicate 256 0xFF))
-    ∷ row (Units 0) (erase (geometry Bit) 2) (plain 0) 8 0 (plain 0)
+    ∷ row (Units 1) (erase (four Bit) 2) (plain 0) 0 (Units 0) (filled 0 1024 512 (replicate 256 0xFF))
+    ∷ row (Units 0) (erase (four Bit) 2) (plain 0) 8 (Units 0) (plain 0)
     -- refused, whatever the fuse, with nothing stored: 3 past the block, for a word that is not whole, and for a block that is not there
-    ∷ row (Units 0) (write (geometry Bit) 1 254 three) (plain 0xFF) 3 0 (plain 0xFF)
-    ∷ row (Units 9) (write (geometry Word4) 1 14 three) (plain 0xFF) 3 9 (plain 0xFF)
-    ∷ row (Units 9) (write (geometry Word4) 1 252 five) (plain 0xFF) 3 9 (plain 0xFF)
-    ∷ row (Units 9) (erase (geometry Bit) 4) (plain 0) 3 9 (plain 0)
+    ∷ row (Units 0) (write (four Bit) 1 254 three) (plain 0xFF) 3 (Units 0) (plain 0xFF)
+    ∷ row (Units 9) (write (four Word4) 1 14 three) (plain 0xFF) 3 (Units 9) (plain 0xFF)
+    ∷ row (Units 9) (write (four Word4) 1 252 five) (plain 0xFF) 3 (Units 9) (plain 0xFF)
+    ∷ row (Units 9) (erase (four Bit) 4) (plain 0) 3 (Units 9) (plain 0)
     -- 6 before 7 before 3
-    ∷ row (Units 9) (write (sized 62) 9 0 three) (plain 0xFF) 6 9 (plain 0xFF)
-    ∷ row (Units 9) (write (sized 128) 9 0 three) (plain 0xFF) 7 9 (plain 0xFF)
+    ∷ row (Units 9) (write (sized 62) 9 0 three) (plain 0xFF) 6 (Units 9) (plain 0xFF)
+    ∷ row (Units 9) (write (sized 128) 9 0 three) (plain 0xFF) 7 (Units 9) (plain 0xFF)
     -- an empty store needs no power, and follows the same tests
-    ∷ row (Units 0) (write (geometry Word4) 1 256 []) (plain 0xFF) 0 0 (plain 0xFF)
-    ∷ row (Units 0) (write (geometry Word4) 1 2 []) (plain 0xFF) 3 0 (plain 0xFF)
-    -- reading, and aligning up
-    ∷ same (bytesIn (readAt (geometry Word4) 1 13 2 (filled 0xFF 268 three))) (0x42 ∷ 0x43 ∷ [])
-    ∷ same (bytesIn (readAt (geometry Word4) 1 255 2 (plain 0xFF))) (3 ∷ [])
-    ∷ eqb (countIn (alignedOf (geometry Word4) 4294967295)) 4294967296
-    ∷ eqb (countIn (alignedOf (geometry Word1) 19)) 19
+    ∷ row (Units 0) (write (four Word4) 1 256 []) (plain 0xFF) 0 (Units 0) (plain 0xFF)
+    ∷ row (Units 0) (write (four Word4) 1 2 []) (plain 0xFF) 3 (Units 0) (plain 0xFF)
+    -- reading, lending, and aligning up
+    ∷ same (bytesIn (readAt (four Word4) 1 13 2 (holding 1024 268 three))) (0x42 ∷ 0x43 ∷ [])
+    ∷ same (bytesIn (readAt (four Word4) 1 255 2 (plain 0xFF))) (3 ∷ [])
+    ∷ same (lent (readAt (four Word4) 1 13 2 (holding 1024 268 three))) (0x42 ∷ 0x43 ∷ [])
+    ∷ same (lent (readAt (four Word4) 1 255 2 (plain 0xFF))) []
+    ∷ eqb (countIn (alignedOf (four Word4) 4294967295)) 4294967296
+    ∷ eqb (countIn (alignedOf (four Word1) 19)) 19
     ∷ eqb (countIn (alignedOf (sized 257) 19)) 6
     ∷ []
 

@@ -1,7 +1,7 @@
 // How finely the chip is programmed, and every length and place that follows from it. One column of document 01's tables each.
 ghost use mathlib.Core.Path.{_≡_};
 ghost use Prim.Native.Nat.{_^_, _≤_, _<_};
-ghost use Rattle.medium.specs.Granularity.{granularityOf, granularityNumber, byteOf, widthOf, unitsIn, alignOf, finishAt, deleteAt, finishMark, sizeAt, header, blockHeader, typeAt, layoutBit};
+ghost use Rattle.medium.specs.Granularity.{granularityOf, granularityNumber, widestUnit, byteOf, widthOf, unitsIn, alignOf, finishAt, deleteAt, finishMark, sizeAt, header, blockHeader, typeAt, layoutBit};
 
 pub enum Granularity {
     Bit,
@@ -24,6 +24,17 @@ impl GranularityRead {
             GranularityRead::Refused(k) => k,
         }
     }
+}
+
+// The most that any granularity takes, for buffers that hold each: a unit, the bytes of an object's state, an object header, a block header.
+impl Granularity {
+    pub const WIDEST_UNIT: usize = 4;
+
+    pub const LONGEST_STATE: usize = 12;
+
+    pub const LONGEST_OBJECT_HEADER: usize = 16;
+
+    pub const LONGEST_BLOCK_HEADER: usize = 12;
 }
 
 // The byte of the geometry record.
@@ -189,7 +200,7 @@ impl Granularity {
 
 // The units of w bytes that n bytes take.
 pub(crate) fn units(w: usize, n: usize) -> usize
-    requires { ⌜ (1 ≤ w) × (w ≤ 4) ⌝ }
+    requires { ⌜ (1 ≤ w) × (w ≤ widestUnit) ⌝ }
     requires { ⌜ n < 2 ^ 63 ⌝ }
     ensures { λ r. ⌜ r ≡ unitsIn w n ⌝ }
 {

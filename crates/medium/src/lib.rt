@@ -16,55 +16,14 @@ use fuse::Fuse;
 use fuse::Stored;
 use geometry::Geometry;
 ghost use mathlib.Core.Path.{_≡_};
-ghost use Prim.Native.Nat.{_^_, _<_};
 ghost use lib.ListN.{length, getD};
 ghost use Rattle.medium.specs.Operation.{run, ended, answered, unlessDone};
 ghost use Rattle.medium.specs.Units.{blank};
-ghost use Rattle.medium.specs.Medium.{onto, writable, erasable, readable, readAt};
+ghost use Rattle.medium.specs.Medium.{onto, writable, erasable, readable, readAt, lent};
 
-// Why a write of n bytes is refused, or 0.
-fn may_write(g: Geometry, room: usize, block: u32, offset: usize, n: usize) -> u8
-    requires { ⌜ n < 2 ^ 63 ⌝ }
-    ensures { λ r. ⌜ r ≡ writable g room block offset n ⌝ }
-{
-    let bad = geometry::check(g, room);
-    if bad != 0 {
-        return bad;
-    }
-    if g.count <= block {
-        return 3;
-    }
-    let size = g.size as usize;
-    if size < offset {
-        return 3;
-    }
-    let k = g.granularity;
-    let w = k.width();
-    if offset % w != 0 {
-        return 3;
-    }
-    let taken = granularity::units(w, n) * w;
-    if size < offset + taken {
-        return 3;
-    }
-    0
-}
-
-fn may_erase(g: Geometry, room: usize, block: u32) -> u8
-    ensures { λ r. ⌜ r ≡ erasable g room block ⌝ }
-{
-    let bad = geometry::check(g, room);
-    if bad != 0 {
-        return bad;
-    }
-    if g.count <= block {
-        return 3;
-    }
-    0
-}
-
-fn may_read(g: Geometry, room: usize, block: u32, offset: usize, n: usize) -> u8
-    requires { ⌜ n < 2 ^ 63 ⌝ }
+// Why n bytes of a block cannot be read, or 0: 6, 7, or 3 where there is no such block or range. By a difference, so that a false length
+// cannot wrap.
+pub fn reach(g: Geometry, room: usize, block: u32, offset: usize, n: usize) -> u8
     ensures { λ r. ⌜ r ≡ readable g room block offset n ⌝ }
 {
     let bad = geometry::check(g, room);
@@ -78,7 +37,40 @@ fn may_read(g: Geometry, room: usize, block: u32, offset: usize, n: usize) -> u8
     if size < offset {
         return 3;
     }
-    if size < offset + n {
+    if size - offset < n {
+        return 3;
+    }
+    0
+}
+
+// Why a write of n bytes is refused, or 0.
+fn may_write(g: Geometry, room: usize, block: u32, offset: usize, n: usize) -> u8
+    ensures { λ r. ⌜ r ≡ writable g room block offset n ⌝ }
+{
+    let bad = reach(g, room, block, offset, n);
+    if bad != 0 {
+        return bad;
+    }
+    let k = g.granularity;
+    let w = k.width();
+    if offset % w != 0 {
+        return 3;
+    }
+    let taken = granularity::units(w, n) * w;
+    if (g.size as usize) - offset < taken {
+        return 3;
+    }
+    0
+}
+
+fn may_erase(g: Geometry, room: usize, block: u32) -> u8
+    ensures { λ r. ⌜ r ≡ erasable g room block ⌝ }
+{
+    let bad = geometry::check(g, room);
+    if bad != 0 {
+        return bad;
+    }
+    if g.count <= block {
         return 3;
     }
     0
@@ -113,12 +105,24 @@ fn fill(part: &mut [u8])
     }
 }
 
+// Lends a range of one block: the bytes that a read gives, and none where it would refuse.
+pub fn lend(g: Geometry, image: &[u8], block: u32, offset: usize, n: usize) -> &[u8]
+    ensures { λ r. ⌜ now r ≡ lent (readAt g block offset n (now (image .entry))) ⌝ }
+{
+    if reach(g, image.len(), block, offset, n) != 0 {
+        return &image[..0];
+    }
+    let at = (block as usize) * (g.size as usize) + offset;
+    let end = at + n;
+    &image[at..end]
+}
+
 // Copies a range of one block into the buffer, or refuses with 6, 7 or 3 and leaves the buffer as it was.
 pub fn read(g: Geometry, image: &[u8], block: u32, offset: usize, buffer: &mut [u8]) -> Answered
     ensures { λ r. ⌜ answered r (now (buffer .exit)) ≡ readAt g block offset (length (now (buffer .entry))) (now (image .entry)) ⌝ }
     ensures { λ r. ⌜ now (buffer .exit) ≡ unlessDone r (now (buffer .entry)) (now (buffer .exit)) ⌝ }
 {
-    let bad = may_read(g, image.len(), block, offset, buffer.len());
+    let bad = reach(g, image.len(), block, offset, buffer.len());
     if bad != 0 {
         return Answered::Refused(bad);
     }

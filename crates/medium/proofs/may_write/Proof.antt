@@ -1,84 +1,75 @@
 -- `medium::may_write` meets its contract.
 use mathlib.Core.Path.{sym, _∙_}
 use mathlib.Core.Bool.{and-false}
-use Prim.Native.Nat.{_+_, _<_}
+use Prim.Native.Nat.{_+_, _<_, _≤_}
 use native.Mathlib.Omega.{arith}
-use borrow.Author.Tests.{le-ltb, lt-ltb, le-leb, lt-leb, eq-eqb, ne-eqb}
+use borrow.Author.Tests.{le-leb, lt-leb, eq-eqb, ne-eqb}
 use Rattle.medium.specs.Granularity.{alignOf, widthOf}
-use Rattle.medium.specs.Medium.{writable}
 use Rattle.medium.proofs.Places.{width-is, taken-le}
-use Rattle.medium.proofs.Checks.{admit-pass, admit-stop}
+use Rattle.medium.proofs.Ranges.{reached, write-unreached, write-reached}
 use borrow.Author.Needs.{needs}
 use Rattle.medium.proofs.may_write.Statement.{statement}
 use Rattle.medium.proofs.may_write.Tie as tie
 
-check-requires : tie.Need-check-requires
-check-requires c κs = search needs
+reach-requires : tie.Need-reach-requires
+reach-requires c κs = search needs
 
 returns : tie.Need-returns
-unfolding writable
-returns c = admit-stop _ _ _ _ (c .before .check .ensures) (c .if1 .taken)
-
-returns-2 : tie.Need-returns-2
-unfolding writable
-returns-2 c = sym (admit-pass _ _ _ _ (c .before .before .before .check .ensures) (c .before .before .if1 .left) ∙ simp (le-ltb _ _ (c .if2 .taken)))
-
-cast-size : tie.Need-cast-size
-cast-size c = search needs
-
-returns-3 : tie.Need-returns-3
-unfolding writable
-returns-3 c =
-    let h : c .before .before .before .before .before .before .args .g .size < c .before .before .before .before .before .before .args .offset + alignOf (widthOf (c .before .before .before .before .before .before .args .g .granularity)) (c .before .before .before .before .before .before .args .n) = omega arith in
-    sym (admit-pass _ _ _ _ (c .before .before .before .before .before .check .ensures) (c .before .before .before .before .if1 .left) ∙ simp (lt-leb _ _ h, and-false))
+returns c = write-unreached _ _ _ _ _ _ (c .before .reach .ensures) (c .if1 .taken)
 
 width-requires : tie.Need-width-requires
 width-requires c κs = search needs
 
-rem-if4 : tie.Need-rem-if4
-rem-if4 c = omega (arith, width-is (c .before .before .before .before .before .before .before .args .g .granularity), c .width .ensures)
+rem-if2 : tie.Need-rem-if2
+rem-if2 c = omega (arith, width-is (c .before .before .before .args .g .granularity), c .width .ensures)
 
-returns-4 : tie.Need-returns-4
-unfolding writable
-returns-4 c = sym (admit-pass _ _ _ _ (c .before .before .before .before .before .before .before .check .ensures) (c .before .before .before .before .before .before .if1 .left) ∙ simp (ne-eqb _ _ (rw (c .before .width .ensures) at (c .if4 .taken)), and-false))
+returns-2 : tie.Need-returns-2
+returns-2 c = sym (write-reached _ _ _ _ _ (reached _ _ _ _ _ _ (c .before .before .before .reach .ensures) (c .before .before .if1 .left)) ∙ simp (ne-eqb _ _ (rw (c .before .width .ensures) at (c .if2 .taken))))
 
 units-requires : tie.Need-units-requires
-units-requires c κs = omega (arith, width-is (c .before .before .before .before .before .before .before .before .args .g .granularity), c .before .width .ensures)
+units-requires c κs =
+    let h = reached _ _ _ _ _ _ (c .before .before .before .reach .ensures) (c .before .before .if1 .left) in
+    omega (arith, width-is (c .before .before .before .before .args .g .granularity), c .before .width .ensures, h .inside, h .fine .sound .small)
 
 mul-taken : tie.Need-mul-taken
-mul-taken c = let w = width-is (c .before .before .before .before .before .before .before .before .before .args .g .granularity) in let h = taken-le _ _ _ (c .units .ensures) (omega (arith, c .before .before .width .ensures)) in omega arith
+mul-taken c =
+    let r = reached _ _ _ _ _ _ (c .before .before .before .before .reach .ensures) (c .before .before .before .if1 .left) in
+    let w = width-is (c .before .before .before .before .before .args .g .granularity) in
+    let h = taken-le _ _ _ (c .units .ensures) (omega (arith, c .before .before .width .ensures)) in
+    omega (arith, r .inside, r .fine .sound .small)
 
-add-if5 : tie.Need-add-if5
-add-if5 c = let w = width-is (c .before .before .before .before .before .before .before .before .before .args .g .granularity) in let h = taken-le _ _ _ (c .units .ensures) (omega (arith, c .before .before .width .ensures)) in omega arith
+cast-if3 : tie.Need-cast-if3
+cast-if3 c = search needs
 
-returns-5 : tie.Need-returns-5
-unfolding writable
-returns-5 c = sym (admit-pass _ _ _ _ (c .before .before .before .before .before .before .before .before .before .check .ensures) (c .before .before .before .before .before .before .before .before .if1 .left) ∙ simp (lt-leb _ _ (rw (c .before .units .ensures, c .before .before .before .width .ensures) at (c .if5 .taken)), and-false))
+sub-if3 : tie.Need-sub-if3
+sub-if3 c = omega (arith, reached _ _ _ _ _ _ (c .before .before .before .before .before .reach .ensures) (c .before .before .before .before .if1 .left) .inside)
 
-returns-6 : tie.Need-returns-6
-unfolding writable
-returns-6 c =
-    sym (admit-pass _ _ _ _ (c .before .before .before .before .before .before .before .before .before .check .ensures) (c .before .before .before .before .before .before .before .before .if1 .left)
-    ∙ simp (
-      lt-ltb _ _ (c .before .before .before .before .before .before .if2 .left),
-      eq-eqb _ _ (rw (c .before .before .before .width .ensures) at (c .before .before .if4 .left)),
-      le-leb _ _ (rw (c .before .units .ensures, c .before .before .before .width .ensures) at (c .if5 .left)),
-    ))
+returns-3 : tie.Need-returns-3
+returns-3 c =
+    let k = widthOf (c .before .before .before .before .before .before .before .args .g .granularity) in
+    let u = rw (c .before .before .units .ensures, c .before .before .before .before .width .ensures) at (c .if3 .taken) in
+    let h : c .before .before .before .before .before .before .before .args .g .size < c .before .before .before .before .before .before .before .args .offset + alignOf (widthOf (c .before .before .before .before .before .before .before .args .g .granularity)) (c .before .before .before .before .before .before .before .args .n) = omega arith in
+    sym (write-reached _ _ _ _ _ (reached _ _ _ _ _ _ (c .before .before .before .before .before .before .reach .ensures) (c .before .before .before .before .before .if1 .left)) ∙ simp (lt-leb _ _ h, and-false))
+
+returns-4 : tie.Need-returns-4
+returns-4 c =
+    let r = reached _ _ _ _ _ _ (c .before .before .before .before .before .before .reach .ensures) (c .before .before .before .before .before .if1 .left) in
+    let u = rw (c .before .before .units .ensures, c .before .before .before .before .width .ensures) at (c .if3 .left) in
+    let h : c .before .before .before .before .before .before .before .args .offset + alignOf (widthOf (c .before .before .before .before .before .before .before .args .g .granularity)) (c .before .before .before .before .before .before .before .args .n) ≤ c .before .before .before .before .before .before .before .args .g .size = omega (arith, r .inside) in
+    sym (write-reached _ _ _ _ _ r ∙ simp (eq-eqb _ _ (rw (c .before .before .before .before .width .ensures) at (c .before .before .before .if2 .left)), le-leb _ _ h))
 
 pub may-write-spec : {M : Type 1} → statement M
 may-write-spec =
     tie.close
     (tie.spec
-    check-requires
+    reach-requires
     returns
-    returns-2
-    cast-size
-    returns-3
     width-requires
-    rem-if4
-    returns-4
+    rem-if2
+    returns-2
     units-requires
     mul-taken
-    add-if5
-    returns-5
-    returns-6)
+    cast-if3
+    sub-if3
+    returns-3
+    returns-4)
