@@ -1,13 +1,26 @@
--- What is promised of a file that was read: no contract can say which bytes it had, but they fit, and an image is as long as its geometry says.
+-- What is promised of a file that was read: no contract can say which bytes it had. They fit; a geometry is what some bytes of a record say
+-- and keeps the medium's rules; an image is as long as its geometry says; and what is refused is refused with 6 or 7.
 use Prim.Native.Nat.{ℕ, _≤_}
 use mathlib.Core.Path.{_≡_}
-use Rattle.medium.specs.Geometry.{checkOf}
+use mathlib.Core.Logic.{_⊎_}
+use mathlib.Core.List.{List}
+use lib.Dec.{eqb}
+use Rattle.medium.specs.declared.geometry.Geometry.{Geometry}
+use Rattle.medium.specs.Granularity.{pick}
+use Rattle.medium.specs.Geometry.{fitOf, checkOf}
+use Rattle.record.specs.declared.GeometryRead.{GeometryRead}
+use Rattle.record.specs.declared.GeometryRead.the-variants as read
+use Rattle.record.specs.Record.{geometryOf}
 use Rattle.files.specs.declared.whole.Piece.{Piece}
 use Rattle.files.specs.declared.whole.Piece.the-variants as piece
 use Rattle.files.specs.declared.whole.FileRead.{FileRead}
 use Rattle.files.specs.declared.whole.FileRead.the-variants as file
+use Rattle.files.specs.declared.pair.RecordFile.{RecordFile}
+use Rattle.files.specs.declared.pair.RecordFile.the-variants as said
 use Rattle.files.specs.declared.pair.Loaded.{Loaded}
 use Rattle.files.specs.declared.pair.Loaded.the-variants as loaded
+
+-- ---- bytes that fit
 
 abbrev pub PieceFits : Piece → ℕ → Type 0
 PieceFits (piece.Bytes n) room = (1 ≤ n) × (n ≤ room)
@@ -19,7 +32,37 @@ FileFits (file.Bytes n) room = n ≤ room
 FileFits file.TooLong room = Unit {0}
 FileFits file.Failed room = Unit {0}
 
+-- ---- the record: what its bytes say, and then the medium's rules
+
+abbrev pub soundBy : GeometryRead → RecordFile
+soundBy (read.Got g) = pick (eqb (fitOf g) 0) (said.Got g) (said.Refused (fitOf g))
+soundBy (read.Refused n) = said.Refused n
+
+unfoldable pub soundOf : List ℕ → RecordFile
+soundOf raw = soundBy (geometryOf raw)
+
+-- some bytes say this geometry
+pub record Said (g : Geometry) : Type 0 where
+  pub raw : List ℕ
+  pub sound : soundOf raw ≡ said.Got g
+
+abbrev pub RecordFits : RecordFile → Type 0
+RecordFits (said.Got g) = Said g
+RecordFits (said.Refused k) = k ≡ 6
+RecordFits said.Failed = Unit {0}
+
+-- ---- the image
+
+abbrev pub SixOrSeven : ℕ → Type 0
+SixOrSeven k = (k ≡ 6) ⊎ (k ≡ 7)
+
+-- for a geometry that was handed in
+abbrev pub ImageFits : Geometry → Loaded → ℕ → Type 0
+ImageFits g (loaded.Ready h n) room = (h ≡ g) × (n ≤ room) × (checkOf g n ≡ 0)
+ImageFits g (loaded.Refused k) room = SixOrSeven k
+ImageFits g loaded.Failed room = Unit {0}
+
 abbrev pub LoadedFits : Loaded → ℕ → Type 0
-LoadedFits (loaded.Ready g n) room = (n ≤ room) × (checkOf g n ≡ 0)
-LoadedFits (loaded.Refused k) room = Unit {0}
+LoadedFits (loaded.Ready g n) room = (n ≤ room) × (checkOf g n ≡ 0) × Said g
+LoadedFits (loaded.Refused k) room = SixOrSeven k
 LoadedFits loaded.Failed room = Unit {0}

@@ -3,8 +3,9 @@ use crate::whole;
 use crate::whole::FileRead;
 use medium::geometry::Geometry;
 use record::GeometryRead;
+ghost use mathlib.Core.Path.{_≡_};
 ghost use lib.ListN.{length};
-ghost use Rattle.files.specs.Files.{LoadedFits};
+ghost use Rattle.files.specs.Files.{soundOf, RecordFits, ImageFits, LoadedFits};
 
 pub enum Loaded {
     // A sound geometry, and an image of the length that it says in the first bytes of the buffer.
@@ -20,7 +21,9 @@ enum RecordFile {
 }
 
 // The geometry of a record that keeps the medium's rules.
-fn sound(raw: &[u8]) -> RecordFile {
+fn sound(raw: &[u8]) -> RecordFile
+    ensures { λ r. ⌜ r ≡ soundOf (now (raw .entry)) ⌝ }
+{
     let got = record::geometry_of(raw);
     let GeometryRead::Got(g) = got else {
         return RecordFile::Refused(got.number());
@@ -32,7 +35,9 @@ fn sound(raw: &[u8]) -> RecordFile {
     RecordFile::Got(g)
 }
 
-fn load_geometry(path: &[u8]) -> RecordFile {
+fn load_geometry(path: &[u8]) -> RecordFile
+    ensures { λ r. ⌜ RecordFits r ⌝ }
+{
     let mut raw = [0u8; 16];
     let got = whole::read(path, &mut raw);
     match got {
@@ -43,7 +48,7 @@ fn load_geometry(path: &[u8]) -> RecordFile {
 }
 
 fn load_image(path: &[u8], g: Geometry, buffer: &mut [u8]) -> Loaded
-    ensures { λ r. ⌜ LoadedFits r (length (now (buffer .entry))) ⌝ }
+    ensures { λ r. ⌜ ImageFits g r (length (now (buffer .entry))) ⌝ }
 {
     let got = whole::read(path, buffer);
     match got {
@@ -59,7 +64,7 @@ fn load_image(path: &[u8], g: Geometry, buffer: &mut [u8]) -> Loaded
     }
 }
 
-// Reads the record, and then the image into the buffer.
+// Reads the record, and then the image into the buffer. Refused with 6 for the record, 7 for the image.
 pub fn load(record_path: &[u8], image_path: &[u8], buffer: &mut [u8]) -> Loaded
     ensures { λ r. ⌜ LoadedFits r (length (now (buffer .entry))) ⌝ }
 {

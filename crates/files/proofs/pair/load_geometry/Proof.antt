@@ -1,6 +1,7 @@
-use mathlib.Core.Path.{sym}
+use mathlib.Core.Path.{refl, sym}
 use native.Mathlib.Omega.{arith}
 use lib.Seq.{length-take-le}
+use Rattle.files.proofs.Refusals.{record-fits}
 use borrow.Author.Needs.{needs}
 use Rattle.files.proofs.pair.load_geometry.Statement.{statement}
 use Rattle.files.proofs.pair.load_geometry.Tie as tie
@@ -30,13 +31,13 @@ sound-requires : tie.Need-sound-requires
 sound-requires c κs = search needs
 
 returns : tie.Need-returns
-returns c = search needs
+returns c = tt
 
 returns-2 : tie.Need-returns-2
-returns-2 c = search needs
+returns-2 c = refl
 
 returns-3 : tie.Need-returns-3
-returns-3 c = search needs
+returns-3 c = record-fits _ _ (c .sound .ensures)
 
 pub load-geometry-spec : {M : Type 1} → statement M
 load-geometry-spec =

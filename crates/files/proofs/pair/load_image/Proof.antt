@@ -1,4 +1,6 @@
-use mathlib.Core.Path.{sym, _∙_}
+use mathlib.Core.Path.{refl, sym, _∙_}
+use mathlib.Core.Logic.{inr}
+use Rattle.files.proofs.Refusals.{check-refuses}
 use borrow.Author.Needs.{needs}
 use Rattle.files.proofs.pair.load_image.Statement.{statement}
 use Rattle.files.proofs.pair.load_image.Tie as tie
@@ -22,25 +24,25 @@ same-length : tie.Need-same-length
 same-length c = search needs
 
 returns : tie.Need-returns
-returns c = search needs
+returns c = check-refuses _ _ _ (c .before .check .ensures) (c .if1 .taken)
 
 same-length-2 : tie.Need-same-length-2
 same-length-2 c = search needs
 
 returns-2 : tie.Need-returns-2
-returns-2 c = search needs
+returns-2 c = tt
 
 same-length-3 : tie.Need-same-length-3
 same-length-3 c = search needs
 
 returns-3 : tie.Need-returns-3
-returns-3 c = search needs
+returns-3 c = inr refl
 
 same-length-4 : tie.Need-same-length-4
 same-length-4 c = search needs
 
 returns-4 : tie.Need-returns-4
-returns-4 c = let h = rw (c .before .before .before .got .given .1) at (c .before .before .before .before .before .before .before .read .ensures) in (h, sym (c .before .check .ensures) ∙ c .if1 .left)
+returns-4 c = (refl, rw (c .before .before .before .got .given .1) at (c .before .before .before .before .before .before .before .read .ensures), sym (c .before .check .ensures) ∙ c .if1 .left)
 
 pub load-image-spec : {M : Type 1} → statement M
 load-image-spec =
