@@ -1,3 +1,1 @@
-pub mod Equal
-pub mod Payloads
 pub mod Looks

@@ -1,11 +1,11 @@
 // One moment of a move: the answer under a fuse, and what then stands at both places.
-use crate::payload;
 use medium::fuse::Fuse;
 use medium::geometry::Geometry;
 use objects::header::ObjectHeader;
 use objects::info;
 use objects::info::InfoRead;
 use objects::location::ObjectLocation;
+use objects::payload;
 use objects::state::CompositeObjectState;
 ghost use mathlib.Core.Path.{_≡_};
 ghost use Rattle.medium.specs.declared.fuse.Fuse.the-variants.{Units};
@@ -43,7 +43,7 @@ fn are_alike(g: Geometry, image: &[u8], a: ObjectHeader, b: ObjectHeader) -> boo
     if type_number(one) != type_number(other) {
         return false;
     }
-    payload::same_payload(g, image, a, b)
+    payload::is_same(g, image, a, b)
 }
 
 fn do_agree(g: Geometry, image: &[u8], original: InfoRead, copy: InfoRead) -> bool

@@ -2,7 +2,7 @@
 use mathlib.Core.Path.{_≡_, refl, sym, ap, _∙_}
 use mathlib.Core.Bool.{and-false}
 use mathlib.Core.List.{List, [], _∷_, _++_, append-nil}
-use Prim.Native.Nat.{ℕ, zero, suc, _+_, _-_, _*_, _/_, _%_, _≤_, _<_}
+use Prim.Native.Nat.{ℕ, zero, suc, _+_, _-_, _*_, _/_, _%_, _^_, _≤_, _<_}
 use native.Mathlib.Nat.{not-suc-le-zero, le-of-suc-le-suc}
 use native.Mathlib.Numerals.{add-one}
 use native.Mathlib.Omega.{arith}
@@ -80,6 +80,17 @@ rest-all xs n = take-all (length xs - n) (drop n xs) (simp length-drop (omega ar
 pub length-bytes : (k n : ℕ) → length (bytes k n) ≡ k
 length-bytes zero n = refl
 length-bytes (suc k) n = ap suc (length-bytes k (n / 256))
+
+-- a number that its bytes can hold reads back
+pub number-bytes : (k n : ℕ) → n < 256 ^ k → number (bytes k n) ≡ n
+number-bytes zero n h = omega arith
+number-bytes (suc k) n h = omega (arith, number-bytes k (n / 256) (omega arith))
+
+-- each of them is a byte
+pub byte-bytes : (k n i : ℕ) → getD (bytes k n) i 0 < 256
+byte-bytes zero n i = omega arith
+byte-bytes (suc k) n zero = omega arith
+byte-bytes (suc k) n (suc i) = byte-bytes k (n / 256) i
 
 -- two numbers put one behind the other into a room of c + s bytes
 pub two-put : (c s m n : ℕ) (room p q : List ℕ) → length room ≡ c + s → p ≡ bytes (length (take c room)) m

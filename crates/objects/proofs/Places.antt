@@ -3,7 +3,7 @@ use Prim.Native.Nat.{ℕ, _+_, _≤_, _<_}
 use native.Mathlib.Omega.{arith}
 use Rattle.medium.specs.declared.granularity.Granularity.{Granularity}
 use Rattle.medium.specs.declared.granularity.Granularity.the-variants.{Bit, Word1, Word4}
-use Rattle.medium.specs.Granularity.{finishAt, deleteAt, sizeAt, header, blockHeader}
+use Rattle.medium.specs.Granularity.{longestState, longestBlockHeader, finishAt, deleteAt, sizeAt, header, blockHeader}
 use Rattle.objects.specs.declared.state.ObjectDataState.{ObjectDataState}
 use Rattle.objects.specs.declared.state.ObjectDataState.the-variants.{Untrusted, Valid, Deleted}
 use Rattle.objects.specs.Types.{markAt}
@@ -12,8 +12,8 @@ pub record Places (k : Granularity) : Type 0 where
   pub finish : finishAt k < sizeAt k
   pub delete : deleteAt k < sizeAt k
   pub least : 2 ≤ sizeAt k
-  pub most : sizeAt k ≤ 12
-  pub block : blockHeader k ≤ 12
+  pub most : sizeAt k ≤ longestState
+  pub block : blockHeader k ≤ longestBlockHeader
 
 pub places : (k : Granularity) → Places k
 places Bit = record { finish = omega arith; delete = omega arith; least = omega arith; most = omega arith; block = omega arith }

@@ -3,6 +3,7 @@ pub mod Types
 pub mod Location
 pub mod Header
 pub mod Info
+pub mod Payload
 pub mod Reader
 pub mod Metadata
 pub mod Listing

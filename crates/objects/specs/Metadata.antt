@@ -4,7 +4,7 @@ use mathlib.Core.List.{List}
 use lib.ListN.{length}
 use lib.Dec.{leb}
 use Rattle.medium.specs.declared.geometry.Geometry.{Geometry}
-use Rattle.medium.specs.Granularity.{pick, header}
+use Rattle.medium.specs.Granularity.{pick}
 use Rattle.medium.specs.Geometry.{checkOf}
 use Rattle.medium.specs.Operation.{Answer, done, refused, andThen, orRefuse}
 use Rattle.medium.specs.Medium.{readAt}
@@ -23,6 +23,7 @@ use Rattle.objects.specs.Numbers.{number}
 use Rattle.objects.specs.Location.{locationLength, locationIn}
 use Rattle.objects.specs.Header.{payloadSizeOf}
 use Rattle.objects.specs.Info.{Info, found, none, infoAt}
+use Rattle.objects.specs.Payload.{payloadAt}
 use Rattle.objects.specs.Reader.{possible}
 
 abbrev pub metadataAnswer : MetadataRead → Answer MetadataObjectHeader
@@ -41,9 +42,9 @@ abbrev pub countNumber : NumberRead → ℕ
 countNumber (count.Got n) = 0
 countNumber (count.Refused k) = k
 
--- where the hash stands: right after the object's header
+-- the hash stands first in the payload
 abbrev pub hashAt : Geometry → ObjectHeader → ℕ
-hashAt g h = h .location .offset + header (g .granularity) (g .s)
+hashAt g h = payloadAt g h
 
 -- the number of n bytes, and the location, at a place of a block
 unfoldable pub numberAt : Geometry → ℕ → ℕ → ℕ → List ℕ → Answer ℕ

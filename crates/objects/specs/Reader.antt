@@ -6,7 +6,7 @@ use mathlib.Core.Bool.{Bool, _&&_, _||_}
 use lib.ListN.{length, drop}
 use lib.Dec.{leb, eqb}
 use Rattle.medium.specs.declared.geometry.Geometry.{Geometry}
-use Rattle.medium.specs.Granularity.{pick, header}
+use Rattle.medium.specs.Granularity.{pick}
 use Rattle.medium.specs.Geometry.{fitOf, checkOf}
 use Rattle.medium.specs.Operation.{Answer, done, refused, andThen, orRefuse}
 use Rattle.medium.specs.Medium.{readAt}
@@ -18,6 +18,7 @@ use Rattle.objects.specs.declared.reader.Reading.{Reading}
 use Rattle.objects.specs.declared.reader.Reading.the-variants as reading
 use Rattle.objects.specs.Types.{rankOf}
 use Rattle.objects.specs.Header.{headerAt, payloadOf}
+use Rattle.objects.specs.Payload.{payloadAt}
 
 abbrev pub readerAnswer : ReaderRead → Answer ObjectReader
 readerAnswer (read.Got r) = done r
@@ -62,7 +63,7 @@ abbrev pub moved : ObjectReader → ℕ → ObjectReader
 moved r n = record { object = r .object; cursor = r .cursor + n }
 
 abbrev pub cursorAt : Geometry → ObjectReader → ℕ
-cursorAt g r = r .object .location .offset + header (g .granularity) (g .s) + r .cursor
+cursorAt g r = payloadAt g (r .object) + r .cursor
 
 -- what is left, or why nothing can be read
 unfoldable pub leftOf : Geometry → ObjectReader → ℕ → Answer ℕ

@@ -6,6 +6,7 @@ use crate::info::InfoRead;
 use crate::location;
 use crate::location::LocationRead;
 use crate::location::ObjectLocation;
+use crate::payload;
 use medium::fuse::Answered;
 use medium::geometry::Counted;
 use medium::geometry::Geometry;
@@ -15,7 +16,7 @@ ghost use lib.ListN.{length};
 ghost use Rattle.medium.specs.Operation.{counted};
 ghost use Rattle.objects.specs.Location.{locationAnswer};
 ghost use Rattle.objects.specs.Header.{payloadSizeOf};
-ghost use Rattle.objects.specs.Metadata.{metadataAnswer, metadataNumber, countAnswer, countNumber, numberAt, hashAt, readMetadata, metadataAt, listEnd, listable, listedAt, pastLocation, nextLocation, resetOf};
+ghost use Rattle.objects.specs.Metadata.{metadataAnswer, metadataNumber, countAnswer, countNumber, numberAt, readMetadata, metadataAt, listEnd, listable, listedAt, pastLocation, nextLocation, resetOf};
 
 pub struct MetadataObjectHeader {
     pub object: ObjectHeader,
@@ -97,22 +98,12 @@ fn location_at(g: Geometry, image: &[u8], block: u32, at: usize) -> LocationRead
     location_in(g, image, block, at, &mut buffer[..n])
 }
 
-// Where the payload of an object starts: there stands the hash.
-fn hash_at(g: Geometry, h: ObjectHeader) -> usize
-    ensures { λ r. ⌜ r ≡ hashAt g h ⌝ }
-    ensures { λ r. ⌜ r < 8589934592 ⌝ }
-{
-    let at = h.location;
-    let k = g.granularity;
-    (at.offset as usize) + k.object_header(g.s)
-}
-
 // Hash and name location of an object, whatever its payload size.
 pub fn read(g: Geometry, image: &[u8], h: ObjectHeader) -> MetadataRead
     ensures { λ r. ⌜ metadataAnswer r ≡ readMetadata g h (now (image .entry)) ⌝ }
 {
     let place = h.location;
-    let at = hash_at(g, h);
+    let at = payload::at(g, h);
     let mut raw = [0u8; 4];
     let n = number_at(g, image, place.block, at, &mut raw);
     let NumberRead::Got(hash) = n else {
@@ -179,7 +170,7 @@ impl MetadataObjectHeader {
         ensures { λ r. ⌜ r ≡ listedAt g self ⌝ }
     {
         let h = self.object;
-        hash_at(g, h) + (4 + (g.c as usize) + (g.s as usize)) + self.cursor
+        payload::at(g, h) + (4 + (g.c as usize) + (g.s as usize)) + self.cursor
     }
 
     fn past_location(self, g: Geometry) -> MetadataObjectHeader

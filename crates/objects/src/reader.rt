@@ -2,6 +2,7 @@
 use crate::header::HeaderRead;
 use crate::header::ObjectHeader;
 use crate::location::ObjectLocation;
+use crate::payload;
 use medium::fuse::Answered;
 use medium::geometry::Counted;
 use medium::geometry::Geometry;
@@ -149,9 +150,7 @@ impl ObjectReader {
         ensures { λ r. ⌜ r ≡ cursorAt g self ⌝ }
     {
         let h = self.object;
-        let place = h.location;
-        let k = g.granularity;
-        (place.offset as usize) + k.object_header(g.s) + self.cursor
+        payload::at(g, h) + self.cursor
     }
 
     // As much of what is left as the buffer holds, into its first bytes.

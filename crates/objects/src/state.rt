@@ -203,7 +203,7 @@ impl CompositeObjectState {
     {
         let k = g.granularity;
         let n = k.size_at();
-        let mut buffer = [0u8; 12];
+        let mut buffer = [0u8; Granularity::LONGEST_STATE];
         CompositeObjectState::read_into(g, image, at, &mut buffer[..n])
     }
 

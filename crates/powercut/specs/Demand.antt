@@ -26,8 +26,9 @@ use Rattle.objects.specs.declared.header.ObjectHeader.{ObjectHeader}
 use Rattle.objects.specs.declared.reader.ObjectReader.{ObjectReader}
 use Rattle.objects.specs.Header.{headerAt, payloadOf}
 use Rattle.objects.specs.Info.{found, none, infoAt, totalOf, spanOf}
+use Rattle.objects.specs.Payload.{payloadAt}
 use Rattle.objects.specs.Reader.{readerAt, readSome}
-use Rattle.writer.specs.Moving.{payloadAt, moveObject}
+use Rattle.writer.specs.Moving.{moveObject}
 
 -- ---- how a place reads
 

@@ -10,9 +10,10 @@ use Rattle.medium.proofs.Runs.{run-ask}
 use Rattle.writer.specs.declared.writer.ObjectWriter.{ObjectWriter}
 use Rattle.objects.specs.declared.location.ObjectLocation.{ObjectLocation}
 use Rattle.objects.specs.declared.header.ObjectHeader.{ObjectHeader}
+use Rattle.objects.specs.Payload.{payloadAt}
 use Rattle.writer.specs.declared.moving.Source.{Source}
 use Rattle.writer.specs.Writer.{allocate, finalize}
-use Rattle.writer.specs.Moving.{payloadAt, chunk, turnsOf, copying}
+use Rattle.writer.specs.Moving.{chunk, turnsOf, copying}
 use Rattle.writer.specs.Steps.{writeCopy}
 use Rattle.writer.proofs.Sequence.{bind-same, bind-assoc}
 

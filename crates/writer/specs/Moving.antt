@@ -4,7 +4,6 @@ use Prim.Native.Nat.{ℕ, zero, suc, _+_, _-_, _/_, min}
 use mathlib.Core.List.{List}
 use mathlib.Core.Bool.{false}
 use Rattle.medium.specs.declared.geometry.Geometry.{Geometry}
-use Rattle.medium.specs.Granularity.{header}
 use Rattle.medium.specs.Operation.{Answer, done, refused, andThen, Op, _>>=_, _>>_, ask, give}
 use Rattle.medium.specs.Medium.{readAt}
 use Rattle.objects.specs.declared.state.ObjectDataState.the-variants.{Deleted}
@@ -13,6 +12,7 @@ use Rattle.objects.specs.declared.state.CompositeObjectState.the-variants as co
 use Rattle.objects.specs.declared.location.ObjectLocation.{ObjectLocation}
 use Rattle.objects.specs.declared.header.ObjectHeader.{ObjectHeader}
 use Rattle.objects.specs.Header.{payloadOf, setState}
+use Rattle.objects.specs.Payload.{payloadAt}
 use Rattle.objects.specs.Reader.{readerAt}
 use Rattle.writer.specs.declared.writer.ObjectWriter.{ObjectWriter}
 use Rattle.writer.specs.declared.moving.Source.{Source}
@@ -36,10 +36,6 @@ sourceIn (comp.Allocated t d) n = done (record { kind = t; size = n })
 -- what is to be copied: the payload size is the one read just now
 unfoldable pub sourceAt : Geometry → ObjectHeader → List ℕ → Answer Source
 sourceAt g h img = andThen (readerAt g (h .location) false img) (λ r. sourceIn (h .state) (payloadOf (g .s) (r .object)))
-
--- where the payload starts
-abbrev pub payloadAt : Geometry → ObjectHeader → ℕ
-payloadAt g h = h .location .offset + header (g .granularity) (g .s)
 
 -- one turn
 unfoldable pub chunk : Geometry → ℕ → ℕ → ℕ → ObjectWriter → Op ObjectWriter

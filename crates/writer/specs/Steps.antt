@@ -13,13 +13,14 @@ use Rattle.objects.specs.declared.state.ObjectDataState.{ObjectDataState}
 use Rattle.objects.specs.declared.location.ObjectLocation.{ObjectLocation}
 use Rattle.objects.specs.declared.header.ObjectHeader.{ObjectHeader}
 use Rattle.objects.specs.Header.{setState}
+use Rattle.objects.specs.Payload.{payloadAt}
 use Rattle.writer.specs.declared.writer.ObjectWriter.{ObjectWriter}
 use Rattle.writer.specs.declared.writer.Writing.{Writing}
 use Rattle.writer.specs.declared.moving.Source.{Source}
 use Rattle.writer.specs.declared.moving.SourceRead.{SourceRead}
 use Rattle.writer.specs.declared.moving.SourceRead.the-variants as source
 use Rattle.writer.specs.Writer.{spentOf, withHeader, possible, allocate, wholeOf, putBytes, finalize}
-use Rattle.writer.specs.Moving.{payloadAt, turnsOf, copying}
+use Rattle.writer.specs.Moving.{turnsOf, copying}
 
 -- a writer that no call goes on with
 abbrev pub spentBy : ObjectWriter → Stored → Writing

@@ -22,6 +22,7 @@ use Rattle.objects.specs.Numbers.{unsetOf}
 use Rattle.objects.specs.Types.{typeByte, rankOf}
 use Rattle.objects.specs.Header.{stateAt, allocatableOf, setState, setPayloadSize}
 use Rattle.objects.specs.Info.{totalOf}
+use Rattle.objects.specs.Payload.{payloadAt}
 use Rattle.writer.specs.declared.writer.ObjectWriter.{ObjectWriter}
 use Rattle.writer.specs.declared.writer.Writing.{Writing}
 use Rattle.writer.specs.declared.writer.Wrote.{Wrote}
@@ -62,7 +63,7 @@ emptied w = record { object = w .object; cursor = w .cursor + w .held; tail = no
 
 -- where the next payload byte is stored
 abbrev pub dataAt : Geometry → ObjectWriter → ℕ
-dataAt g w = w .object .location .offset + header (g .granularity) (g .s) + w .cursor
+dataAt g w = payloadAt g (w .object) + w .cursor
 
 -- ---- impossible: "a pending tail as long as the width or longer (under Bit and Word(1), not empty), a cursor above 65,536"
 

@@ -8,6 +8,7 @@ use medium::geometry::Geometry;
 use objects::header::Headed;
 use objects::header::ObjectHeader;
 use objects::location::ObjectLocation;
+use objects::payload;
 use objects::reader::ObjectReader;
 use objects::reader::ReaderRead;
 use objects::state::CompositeObjectState;
@@ -17,7 +18,7 @@ ghost use mathlib.Core.Path.{_≡_};
 ghost use Prim.Native.Nat.{_+_, _≤_, _<_, _^_, min};
 ghost use lib.ListN.{length};
 ghost use Rattle.medium.specs.Operation.{run, endedBy, unlessStored};
-ghost use Rattle.writer.specs.Moving.{sourceAnswer, sourceNumber, sourceAt, payloadAt, chunk, turnsOf, copying, copyObject, moveObject};
+ghost use Rattle.writer.specs.Moving.{sourceAnswer, sourceNumber, sourceAt, chunk, turnsOf, copying, copyObject, moveObject};
 ghost use Rattle.writer.specs.Steps.{smallSource, writeCopy};
 
 // What is to be copied.
@@ -149,24 +150,14 @@ fn write_copy(
         return one;
     };
     let w1 = one.writer;
-    let at = h.location;
-    let two = copy(g, image, f1, at.block, payload_at(g, h), n, w1);
+    let place = h.location;
+    let two = copy(g, image, f1, place.block, payload::at(g, h), n, w1);
     let a2 = two.answer;
     let Stored::Done(f2) = a2 else {
         return two;
     };
     let w2 = two.writer;
     w2.finalize(g, image, f2)
-}
-
-// Where the payload starts.
-fn payload_at(g: Geometry, h: ObjectHeader) -> usize
-    ensures { λ r. ⌜ r ≡ payloadAt g h ⌝ }
-    ensures { λ r. ⌜ r < 2 ^ 33 ⌝ }
-{
-    let at = h.location;
-    let k = g.granularity;
-    (at.offset as usize) + k.object_header(g.s)
 }
 
 // n payload bytes from a place of a block, 16 a turn.

@@ -4,10 +4,12 @@ use medium::fuse::Fuse;
 use medium::fuse::Stored;
 use medium::geometry::Counted;
 use medium::geometry::Geometry;
+use medium::granularity::Granularity;
 use objects::header;
 use objects::header::ObjectHeader;
 use objects::info;
 use objects::location::ObjectLocation;
+use objects::payload;
 use objects::state::CompositeObjectState;
 use objects::state::ObjectDataState;
 use objects::state::StateRead;
@@ -16,7 +18,7 @@ ghost use mathlib.Core.Path.{_≡_};
 ghost use Prim.Native.Nat.{_+_, _≤_, _<_, _^_};
 ghost use lib.ListN.{length};
 ghost use lib.Seq.{paste};
-ghost use Rattle.medium.specs.Granularity.{widthOf};
+ghost use Rattle.medium.specs.Granularity.{widestUnit, widthOf};
 ghost use Rattle.medium.specs.Operation.{run, endedBy, counted, unlessStored};
 ghost use Rattle.objects.specs.Types.{rankOf};
 ghost use Rattle.writer.specs.Writer.{freshOf, spentOf, keptOf, backOf, withHeader, dataAt, soundOf, spaceOf, payloadSize, totalSize, appendable, append, pendingOf, heldBack, finishable, wroteOf, wroteEnd, writeTo};
@@ -25,7 +27,7 @@ ghost use Rattle.writer.specs.Steps.{spentBy, usableOf, storeWords, mark
 pub struct ObjectWriter {
     pub object: ObjectHeader,
     pub cursor: usize,
-    pub tail: [u8; 4],
+    pub tail: [u8; Granularity::WIDEST_UNIT],
     pub held: usize,
     pub spent: bool,
 }
@@ -242,9 +244,7 @@ impl ObjectWriter {
         ensures { λ r. ⌜ r < 2 ^ 33 ⌝ }
     {
         let h = self.object;
-        let at = h.location;
-        let k = g.granularity;
-        (at.offset as usize) + k.object_header(g.s) + self.cursor
+        payload::at(g, h) + self.cursor
     }
 }
 
@@ -264,9 +264,8 @@ impl ObjectWriter {
         self.possible(g)
     }
 
-    // For n bytes more: 4 out of state, 9 past the block's end, 5 too many.
+    // For n bytes more: 4 out of state, 9 past the block's end, 5 too many. By a difference, so that a false length cannot wrap.
     fn may_append(self, g: Geometry, room: usize, n: usize) -> u8
-        requires { ⌜ n < 2 ^ 63 ⌝ }
         ensures { λ r. ⌜ r ≡ appendable self g room n ⌝ }
     {
         let bad = self.sound(g, room);
@@ -283,7 +282,7 @@ impl ObjectWriter {
         if size < at {
             return 9;
         }
-        if size < at + n {
+        if size - at < n {
             return 5;
         }
         0
@@ -317,7 +316,7 @@ impl ObjectWriter {
                 location: at,
             },
             cursor: 0,
-            tail: [0; 4],
+            tail: [0; Granularity::WIDEST_UNIT],
             held: 0,
             spent: false,
         }
@@ -356,11 +355,11 @@ impl ObjectWriter {
 
     // n bytes on, with the rest held.
     fn held_back(self, n: usize, rest: &[u8]) -> ObjectWriter
-        requires { ⌜ (self .cursor + n < 2 ^ 63) × (length (now rest) ≤ 4) ⌝ }
+        requires { ⌜ (self .cursor + n < 2 ^ 63) × (length (now rest) ≤ widestUnit) ⌝ }
         ensures { λ r. ⌜ r ≡ heldBack self n (now (rest .entry)) ⌝ }
     {
         let h = self.object;
-        let tail = pasted([0; 4], 0, rest);
+        let tail = pasted([0; Granularity::WIDEST_UNIT], 0, rest);
         ObjectWriter {
             object: h,
             cursor: self.cursor + n,
@@ -379,7 +378,7 @@ impl ObjectWriter {
         ObjectWriter {
             object: h,
             cursor: self.cursor + self.held,
-            tail: [0; 4],
+            tail: [0; Granularity::WIDEST_UNIT],
             held: 0,
             spent: self.spent,
         }
@@ -395,8 +394,12 @@ impl ObjectWriter {
 }
 
 // The word with src's bytes from a place on.
-fn pasted(word: [u8; 4], at: usize, src: &[u8]) -> [u8; 4]
-    requires { ⌜ at + length (now src) ≤ 4 ⌝ }
+fn pasted(
+    word: [u8; Granularity::WIDEST_UNIT],
+    at: usize,
+    src: &[u8],
+) -> [u8; Granularity::WIDEST_UNIT]
+    requires { ⌜ at + length (now src) ≤ widestUnit ⌝ }
     ensures { λ r. ⌜ r ≡ paste word at (now (src .entry)) (length (now (src .entry))) ⌝ }
 {
     let mut w = word;

@@ -14,14 +14,14 @@ returns : tie.Need-returns
 unfolding alike
 returns c = rw (← c .before .before .type-number .ensures, ← c .before .type-number2 .ensures, ne-eqb _ _ (c .if1 .taken))
 
-same-payload-requires : tie.Need-same-payload-requires
-same-payload-requires c κs = search needs
+is-same-requires : tie.Need-is-same-requires
+is-same-requires c κs = search needs
 
 returns-2 : tie.Need-returns-2
 unfolding alike
-returns-2 c = rw (← c .before .before .before .type-number .ensures, ← c .before .before .type-number2 .ensures, eq-eqb _ _ (c .before .if1 .left), c .same-payload .ensures)
+returns-2 c = rw (← c .before .before .before .type-number .ensures, ← c .before .before .type-number2 .ensures, eq-eqb _ _ (c .before .if1 .left), c .is-same .ensures)
 
 pub are-alike-spec : {M : Type 1} → statement M
 are-alike-spec =
     tie.close
-    (tie.spec type-number-requires type-number-requires-2 returns same-payload-requires returns-2)
+    (tie.spec type-number-requires type-number-requires-2 returns is-same-requires returns-2)

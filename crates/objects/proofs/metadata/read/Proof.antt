@@ -5,8 +5,8 @@ use borrow.Author.Needs.{needs}
 use Rattle.objects.proofs.metadata.read.Statement.{statement}
 use Rattle.objects.proofs.metadata.read.Tie as tie
 
-hash-at-requires : tie.Need-hash-at-requires
-hash-at-requires c κs = search needs
+at-requires : tie.Need-at-requires
+at-requires c κs = search needs
 
 slice-aggregate-number-at : tie.Need-slice-aggregate-number-at
 slice-aggregate-number-at c = search needs
@@ -25,7 +25,7 @@ number-requires c κs = search needs
 
 returns : tie.Need-returns
 unfolding readMetadata
-returns c = rw (c .number .ensures, ← rw (c .before .before .before .before .before .before .hash-at .ensures .0) at (c .before .before .before .before .number-at .ensures), c .before .enum-told .given .1)
+returns c = rw (c .number .ensures, ← rw (c .before .before .before .before .before .before .at .ensures .0) at (c .before .before .before .before .number-at .ensures), c .before .enum-told .given .1)
 
 add-location-at : tie.Need-add-location-at
 add-location-at c = search needs
@@ -44,17 +44,17 @@ number-requires-2 c κs = search needs
 
 returns-2 : tie.Need-returns-2
 unfolding readMetadata
-returns-2 c = rw (c .number2 .ensures, ← rw (c .before .before .before .before .before .before .before .before .before .before .hash-at .ensures .0) at (c .before .before .before .before .before .before .before .before .number-at .ensures), c .before .before .before .before .before .n .given .1, ← rw (c .before .before .before .before .before .before .before .before .before .before .hash-at .ensures .0) at (c .before .before .before .location-at .ensures), c .before .enum-told2 .given .1)
+returns-2 c = rw (c .number2 .ensures, ← rw (c .before .before .before .before .before .before .before .before .before .before .at .ensures .0) at (c .before .before .before .before .before .before .before .before .number-at .ensures), c .before .before .before .before .before .n .given .1, ← rw (c .before .before .before .before .before .before .before .before .before .before .at .ensures .0) at (c .before .before .before .location-at .ensures), c .before .enum-told2 .given .1)
 
 returns-3 : tie.Need-returns-3
 unfolding readMetadata
-returns-3 c = rw (← rw (c .before .before .before .before .before .before .before .before .before .before .hash-at .ensures .0) at (c .before .before .before .before .before .before .before .before .number-at .ensures), c .before .before .before .before .before .n .given .1, ← rw (c .before .before .before .before .before .before .before .before .before .before .hash-at .ensures .0) at (c .before .before .before .location-at .ensures), c .before .l .given .1)
+returns-3 c = rw (← rw (c .before .before .before .before .before .before .before .before .before .before .at .ensures .0) at (c .before .before .before .before .before .before .before .before .number-at .ensures), c .before .before .before .before .before .n .given .1, ← rw (c .before .before .before .before .before .before .before .before .before .before .at .ensures .0) at (c .before .before .before .location-at .ensures), c .before .l .given .1)
 
 pub read-spec : {M : Type 1} → statement M
 read-spec =
     tie.close
     (tie.spec
-    hash-at-requires
+    at-requires
     slice-aggregate-number-at
     number-at-requires
     enum-known-n

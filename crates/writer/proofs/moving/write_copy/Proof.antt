@@ -22,8 +22,8 @@ returns : tie.Need-returns
 unfolding writeCopy
 returns c = rw (c .enum-told .given .1) (sym (stop _ _ _ _ _ _ _ _ (c .before .before .before .before .allocate .ensures .0) (c .enum-told .given .1)))
 
-payload-at-requires : tie.Need-payload-at-requires
-payload-at-requires c κs = search needs
+at-requires : tie.Need-at-requires
+at-requires c κs = search needs
 
 copy-requires : tie.Need-copy-requires
 copy-requires c κs = search needs
@@ -39,7 +39,7 @@ same-length-2 c = search needs
 
 returns-2 : tie.Need-returns-2
 unfolding writeCopy
-returns-2 c = rw (c .enum-told2 .given .1) (sym (on _ _ _ _ _ _ _ _ (c .before .before .before .before .before .before .before .before .before .before .before .before .before .before .allocate .ensures .0) (c .before .before .before .before .before .before .before .before .before .before .a1 .given .1) ∙ stop _ _ _ _ _ _ _ _ (rw (c .before .before .before .before .before .payload-at .ensures .0) at (c .before .before .before .before .copy .ensures)) (c .enum-told2 .given .1)))
+returns-2 c = rw (c .enum-told2 .given .1) (sym (on _ _ _ _ _ _ _ _ (c .before .before .before .before .before .before .before .before .before .before .before .before .before .before .allocate .ensures .0) (c .before .before .before .before .before .before .before .before .before .before .a1 .given .1) ∙ stop _ _ _ _ _ _ _ _ (rw (c .before .before .before .before .before .at .ensures .0) at (c .before .before .before .before .copy .ensures)) (c .enum-told2 .given .1)))
 
 finalize-requires : tie.Need-finalize-requires
 finalize-requires c κs = search needs
@@ -49,7 +49,7 @@ same-length-3 c = omega (arith, c .before .before .finalize .kept .1 .1 .0, c .b
 
 returns-3 : tie.Need-returns-3
 unfolding writeCopy
-returns-3 c = c .before .before .finalize .ensures .0 ∙ sym (on _ _ _ _ _ _ _ _ (c .before .before .before .before .before .before .before .before .before .before .before .before .before .before .before .before .before .before .before .before .allocate .ensures .0) (c .before .before .before .before .before .before .before .before .before .before .before .before .before .before .before .before .a1 .given .1) ∙ on _ _ _ _ _ _ _ _ (rw (c .before .before .before .before .before .before .before .before .before .before .before .payload-at .ensures .0) at (c .before .before .before .before .before .before .before .before .before .before .copy .ensures)) (c .before .before .before .before .before .before .a2 .given .1))
+returns-3 c = c .before .before .finalize .ensures .0 ∙ sym (on _ _ _ _ _ _ _ _ (c .before .before .before .before .before .before .before .before .before .before .before .before .before .before .before .before .before .before .before .before .allocate .ensures .0) (c .before .before .before .before .before .before .before .before .before .before .before .before .before .before .before .before .a1 .given .1) ∙ on _ _ _ _ _ _ _ _ (rw (c .before .before .before .before .before .before .before .before .before .before .before .at .ensures .0) at (c .before .before .before .before .before .before .before .before .before .before .copy .ensures)) (c .before .before .before .before .before .before .a2 .given .1))
 
 pub write-copy-spec : {M : Type 1} → statement M
 write-copy-spec =
@@ -60,7 +60,7 @@ write-copy-spec =
     enum-told
     same-length
     returns
-    payload-at-requires
+    at-requires
     copy-requires
     enum-known-a2
     enum-told-2

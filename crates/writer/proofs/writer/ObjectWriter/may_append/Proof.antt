@@ -1,7 +1,8 @@
+use Prim.Native.Nat.{_+_, _≤_, _<_}
 use native.Mathlib.Omega.{arith}
 use borrow.Author.Tests.{eq-eqb, ne-eqb, le-leb, lt-leb}
 use Rattle.medium.proofs.Places.{width-is}
-use Rattle.writer.specs.Writer.{appendable}
+use Rattle.writer.specs.Writer.{dataAt, appendable}
 use Rattle.writer.proofs.Laws.{sound-is}
 use borrow.Author.Needs.{needs}
 use Rattle.writer.proofs.writer.ObjectWriter.may_append.Statement.{statement}
@@ -34,16 +35,17 @@ returns-3 : tie.Need-returns-3
 unfolding appendable
 returns-3 c = rw (← c .before .before .before .before .before .before .before .before .sound .ensures, eq-eqb _ _ (c .before .before .before .before .before .before .before .if1 .left), ← c .before .before .before .before .before .rank .ensures, eq-eqb _ _ (c .before .before .before .before .if2 .left), lt-leb _ _ (rw (c .before .before .before .data-at .ensures .0) at (c .if3 .taken)))
 
-add-if4 : tie.Need-add-if4
-add-if4 c = search needs
-
 returns-4 : tie.Need-returns-4
 unfolding appendable
-returns-4 c = rw (← c .before .before .before .before .before .before .before .before .before .sound .ensures, eq-eqb _ _ (c .before .before .before .before .before .before .before .before .if1 .left), ← c .before .before .before .before .before .before .rank .ensures, eq-eqb _ _ (c .before .before .before .before .before .if2 .left), le-leb _ _ (rw (c .before .before .before .before .data-at .ensures .0) at (c .before .if3 .left)), lt-leb _ _ (rw (c .before .before .before .before .data-at .ensures .0) at (c .if4 .taken)))
+returns-4 c =
+    let h : c .before .before .before .before .before .before .before .before .before .before .args .g .size < dataAt (c .before .before .before .before .before .before .before .before .before .before .args .g) (c .before .before .before .before .before .before .before .before .before .before .args .self) + c .before .before .before .before .before .before .before .before .before .before .args .self .held + c .before .before .before .before .before .before .before .before .before .before .args .n = omega (arith, c .before .before .before .before .data-at .ensures .0) in
+    rw (← c .before .before .before .before .before .before .before .before .before .sound .ensures, eq-eqb _ _ (c .before .before .before .before .before .before .before .before .if1 .left), ← c .before .before .before .before .before .before .rank .ensures, eq-eqb _ _ (c .before .before .before .before .before .if2 .left), le-leb _ _ (rw (c .before .before .before .before .data-at .ensures .0) at (c .before .if3 .left)), lt-leb _ _ h)
 
 returns-5 : tie.Need-returns-5
 unfolding appendable
-returns-5 c = rw (← c .before .before .before .before .before .before .before .before .before .sound .ensures, eq-eqb _ _ (c .before .before .before .before .before .before .before .before .if1 .left), ← c .before .before .before .before .before .before .rank .ensures, eq-eqb _ _ (c .before .before .before .before .before .if2 .left), le-leb _ _ (rw (c .before .before .before .before .data-at .ensures .0) at (c .before .if3 .left)), le-leb _ _ (rw (c .before .before .before .before .data-at .ensures .0) at (c .if4 .left)))
+returns-5 c =
+    let h : dataAt (c .before .before .before .before .before .before .before .before .before .before .args .g) (c .before .before .before .before .before .before .before .before .before .before .args .self) + c .before .before .before .before .before .before .before .before .before .before .args .self .held + c .before .before .before .before .before .before .before .before .before .before .args .n ≤ c .before .before .before .before .before .before .before .before .before .before .args .g .size = omega (arith, c .before .before .before .before .data-at .ensures .0) in
+    rw (← c .before .before .before .before .before .before .before .before .before .sound .ensures, eq-eqb _ _ (c .before .before .before .before .before .before .before .before .if1 .left), ← c .before .before .before .before .before .before .rank .ensures, eq-eqb _ _ (c .before .before .before .before .before .if2 .left), le-leb _ _ (rw (c .before .before .before .before .data-at .ensures .0) at (c .before .if3 .left)), le-leb _ _ h)
 
 pub may-append-spec : {M : Type 1} → statement M
 may-append-spec =
@@ -57,6 +59,5 @@ may-append-spec =
     add-at
     cast-size
     returns-3
-    add-if4
     returns-4
     returns-5)

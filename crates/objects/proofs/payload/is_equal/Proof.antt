@@ -2,10 +2,10 @@ use mathlib.Core.Path.{_≡_, refl, sym, _∙_}
 use Prim.Native.Nat.{_-_, _≤_}
 use native.Mathlib.Omega.{arith}
 use lib.ListN.{length, drop}
-use Rattle.cuts.specs.Agree.{equal}
-use Rattle.cuts.proofs.Equal.{other-length, differ, step, whole}
-use Rattle.cuts.proofs.payload.is_equal.Statement.{statement}
-use Rattle.cuts.proofs.payload.is_equal.Tie as tie
+use Rattle.objects.specs.Payload.{equal}
+use Rattle.objects.proofs.Equal.{other-length, differ, step, whole}
+use Rattle.objects.proofs.payload.is_equal.Statement.{statement}
+use Rattle.objects.proofs.payload.is_equal.Tie as tie
 
 abbrev Inv-loop : tie.InvT-loop
 Inv-loop a b i₀ i = (i ≤ length a) × (length a ≡ length b) × (equal a b ≡ equal (drop i a) (drop i b))

@@ -9,7 +9,7 @@ use lib.ListN.{length, drop, getD}
 use lib.Seq.{drop-cons}
 use lib.Dec.{eqb}
 use borrow.Author.Tests.{eq-eqb, ne-eqb}
-use Rattle.cuts.specs.Agree.{equal}
+use Rattle.objects.specs.Payload.{equal}
 
 pub other-length : (a b : List ℕ) → (length a ≡ length b → ⊥) → equal a b ≡ false
 unfolding equal
