@@ -13,14 +13,15 @@ use Rattle.medium.specs.declared.granularity.Granularity.{Granularity}
 use Rattle.medium.specs.declared.granularity.Granularity.the-variants.{Bit, Word1, Word4}
 use Rattle.medium.specs.declared.geometry.Geometry.{Geometry}
 use Rattle.medium.specs.declared.fuse.Fuse.{Fuse}
-use Rattle.medium.specs.Granularity.{pick, widthOf, alignOf, blockHeader}
-use Rattle.medium.specs.Geometry.{geometryOk, admit, checkOf, address}
+use Rattle.medium.specs.Granularity.{pick, longestBlockHeader, widthOf, alignOf, blockHeader}
+use Rattle.medium.specs.Geometry.{geometryOk, admit, checkOf}
 use Rattle.medium.specs.Units.{under, blank}
 use Rattle.medium.specs.Operation.{Answer, done, refused, andThen, run, ask, putting, _>>=_}
-use Rattle.medium.specs.Medium.{part, readable, writable, erasable, readAt, write, erase}
+use Rattle.medium.specs.Medium.{readable, writable, erasable, readAt, lent, write, erase}
 use Rattle.medium.proofs.Runs.{run-ask, ask-on, test-on, test-stop}
 use Rattle.medium.proofs.Bytes.{length-erased}
-use Rattle.medium.proofs.Checks.{Fine, sound-is, admitted, admit-pass, picked}
+use Rattle.medium.proofs.Checks.{Fine, sound-is, admitted, passed, admit-pass, picked}
+use Rattle.medium.proofs.Ranges.{read-lent, read-refused}
 use Rattle.medium.proofs.Places.{headed, even-align}
 use Rattle.blocks.specs.declared.header.BlockType.the-variants.{Undefined}
 use Rattle.blocks.specs.declared.header.BlockHeaderKind.the-variants.{Known}
@@ -28,7 +29,7 @@ use Rattle.blocks.specs.declared.format.Plan.{Plan}
 use Rattle.blocks.specs.declared.format.Plan.the-variants as plan
 use Rattle.blocks.specs.BlockHeader.{wideBytes, headerBytes, writeHeader, headerIn, blockHeaderAt}
 use Rattle.blocks.specs.Format.{allFF, dataLength, dataEmptyAt, planBy, planAt, undefined, labelling, renewing, carryOut, formatBlock, formatFrom, formatStorage}
-use Rattle.blocks.proofs.Headers.{passed, readable-of}
+use Rattle.blocks.proofs.Headers.{readable-of}
 
 -- ---- bytes that are FF
 
@@ -57,16 +58,6 @@ reach-reads g room b o n h = go (geometryOk g) refl
     go true e = ap (λ (m : ℕ). pick (eqb (g .size * g .count) room) m 7) (in-block (ltb b (g .count)) (h e))
     go false e = refl
 
-pub read-reached : (g : Geometry) (b o n : ℕ) (img : List ℕ) (r : ℕ) → (geometryOk g ≡ true → o + n ≤ g .size) → r ≡ erasable g (length img) b → r ≡ 0
-    → readAt g b o n img ≡ done (part (address g b o) n img)
-unfolding readAt
-read-reached g b o n img r h e z = rw (reach-reads g (length img) b o n h, ← e, z)
-
-pub read-unreached : (g : Geometry) (b o n : ℕ) (img : List ℕ) (r : ℕ) → (geometryOk g ≡ true → o + n ≤ g .size) → r ≡ erasable g (length img) b → (r ≡ 0 → ⊥)
-    → readAt g b o n img ≡ refused r
-unfolding readAt
-read-unreached g b o n img r h e z = rw (reach-reads g (length img) b o n h, ← e, ne-eqb _ _ z)
-
 -- of a block that can be reached: the geometry is sound, and the block lies within the image
 pub reach-fine : (g : Geometry) (room b r : ℕ) → r ≡ erasable g room b → r ≡ 0 → Fine g room
 unfolding erasable
@@ -80,22 +71,15 @@ pub reach-below : (g : Geometry) (room b r : ℕ) → r ≡ erasable g room b �
 unfolding erasable
 reach-below g room b r e z = ltb-true _ _ (picked (ltb b (g .count)) 0 2 (admitted g room (pick (ltb b (g .count)) 0 3) (sym e ∙ z) .1) .0)
 
-pub data-fits : (g : Geometry) → geometryOk g ≡ true → blockHeader (g .granularity) + dataLength g ≤ g .size
-data-fits g e = omega (arith, sound-is g e .least, headed (g .granularity) .block-short)
-
-module _ (g : Geometry) (b : ℕ) (img : List ℕ) (r : ℕ) (e : r ≡ erasable g (length img) b) where
-  pub data-unreached : (r ≡ 0 → ⊥) → dataEmptyAt g b img ≡ refused r
+-- whether the data is empty, from the bytes that were lent: n of them behind a header of h
+module _ (g : Geometry) (b : ℕ) (img : List ℕ) (h n r : ℕ) (eh : h ≡ blockHeader (g .granularity)) (en : n ≡ dataLength g) (e : r ≡ readable g (length img) b h n) where
+  pub data-refused : (r ≡ 0 → ⊥) → dataEmptyAt g b img ≡ refused r
   unfolding dataEmptyAt
-  data-unreached h = rw (read-unreached g b (blockHeader (g .granularity)) (dataLength g) img r (data-fits g) e h)
+  data-refused z = rw (← en, ← eh, read-refused g b h n img r e z)
 
-  pub data-reached : r ≡ 0 → dataEmptyAt g b img ≡ done (allFF (part (address g b (blockHeader (g .granularity))) (dataLength g) img))
+  pub data-lent : (bs : List ℕ) (t : Bool) → bs ≡ lent (readAt g b h n img) → t ≡ allFF bs → r ≡ 0 → dataEmptyAt g b img ≡ done t
   unfolding dataEmptyAt
-  data-reached z = rw (read-reached g b (blockHeader (g .granularity)) (dataLength g) img r (data-fits g) e z)
-
-  -- the same of the range that a caller lent: n bytes from behind a header of h
-  pub data-told : (h n : ℕ) (t : Bool) → h ≡ blockHeader (g .granularity) → n ≡ g .size - h → t ≡ allFF (take n (drop (b * g .size + h) img)) → r ≡ 0
-      → dataEmptyAt g b img ≡ done t
-  data-told h n t eh en et z = data-reached z ∙ rw (et, en, eh)
+  data-lent bs t q w z = rw (← en, ← eh, read-lent g b h n img r e bs q z, w)
 
 -- ---- the plan is carried out
 
@@ -128,7 +112,7 @@ module _ (g : Geometry) (f : Fuse) (img : List ℕ) (r : ℕ) (e : r ≡ checkOf
 -- ---- with power a format is refused by its plan alone
 
 -- a header is whole units, and every block has room for it
-length-header : (g : Geometry) (n : ℕ) → length (headerBytes g (undefined n)) ≡ blockHeader (g .granularity)
+pub length-header : (g : Geometry) (n : ℕ) → length (headerBytes g (undefined n)) ≡ blockHeader (g .granularity)
 unfolding headerBytes
 length-header g n = go (g .granularity)
   where
@@ -137,7 +121,8 @@ length-header g n = go (g .granularity)
     go Word1 = refl
     go Word4 = refl
 
-label-writes : (g : Geometry) (b n room : ℕ) → erasable g room b ≡ 0 → writable g room b 0 (length (headerBytes g (undefined n))) ≡ 0
+-- so there is room for it
+pub label-writes : (g : Geometry) (b n room : ℕ) → erasable g room b ≡ 0 → writable g room b 0 (length (headerBytes g (undefined n))) ≡ 0
 unfolding writable
 label-writes g b n room e =
     let k = g .granularity in
@@ -170,12 +155,12 @@ unfolding formatBlock _>>=_ ask
 format-answer g b img p e = rw e
 
 -- where there is a plan, the block can be reached
-planned : (g : Geometry) (b : ℕ) (img : List ℕ) (p : Plan) → planAt g b img ≡ p → ((k : ℕ) → p ≡ plan.Refused k → ⊥) → erasable g (length img) b ≡ 0
+pub planned : (g : Geometry) (b : ℕ) (img : List ℕ) (p : Plan) → planAt g b img ≡ p → ((k : ℕ) → p ≡ plan.Refused k → ⊥) → erasable g (length img) b ≡ 0
 unfolding planAt blockHeaderAt
-planned g b img p e n = go (readAt g b 0 12 img) refl e
+planned g b img p e n = go (readAt g b 0 longestBlockHeader img) refl e
   where
-    go : (a : Answer (List ℕ)) → readAt g b 0 12 img ≡ a → planBy g b img (andThen a (λ bs. done (headerIn g bs))) ≡ p → erasable g (length img) b ≡ 0
-    go (done bs) q h = sym (reach-reads g (length img) b 0 12 (λ s. omega (arith, sound-is g s .least))) ∙ readable-of g b 0 12 img bs q
+    go : (a : Answer (List ℕ)) → readAt g b 0 longestBlockHeader img ≡ a → planBy g b img (andThen a (λ bs. done (headerIn g bs))) ≡ p → erasable g (length img) b ≡ 0
+    go (done bs) q h = sym (reach-reads g (length img) b 0 longestBlockHeader (λ s. omega (arith, sound-is g s .least))) ∙ readable-of g b 0 longestBlockHeader img bs q
     go (refused k) q h = absurd (n k (sym h))
 
 pub format-refused : (g : Geometry) (b : ℕ) (img : List ℕ) (k : ℕ) → planAt g b img ≡ plan.Refused k → formatBlock g b img .answer ≡ refused k

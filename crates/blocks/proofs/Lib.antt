@@ -2,3 +2,5 @@ pub mod Headers
 pub mod Formats
 pub mod Records
 pub mod Scans
+pub mod ReadBack
+pub mod Formatted

@@ -1,22 +1,23 @@
 -- A scan: the last written byte, and what each step of a listing leaves to be listed.
 use mathlib.Core.Path.{_≡_, refl, ap, _∙_}
-use Prim.Native.Nat.{ℕ, zero, suc, _+_, _-_, _*_, _≤_, _<_}
+use Prim.Native.Nat.{ℕ, zero, suc, _+_, _-_, _≤_, _<_}
 use native.Mathlib.Nat.{le-of-suc-le-suc, not-suc-le-zero, add-assoc}
 use native.Mathlib.Omega.{arith}
 use mathlib.Core.Bool.{Bool, true, false, not}
 use mathlib.Core.List.{List, [], _∷_}
-use lib.ListN.{length, getD, take, drop}
+use lib.ListN.{length, getD, take}
 use lib.Dec.{leb, eqb}
 use borrow.Author.Tests.{eq-eqb, ne-eqb}
 use Rattle.medium.specs.declared.granularity.Granularity.{Granularity}
 use Rattle.medium.specs.declared.geometry.Geometry.{Geometry}
 use Rattle.medium.specs.Granularity.{pick, widthOf}
-use Rattle.medium.specs.Geometry.{geometryOk, checkOf}
+use Rattle.medium.specs.Geometry.{checkOf}
 use Rattle.medium.specs.Operation.{done, refused}
-use Rattle.medium.specs.Medium.{erasable}
+use Rattle.medium.specs.Medium.{readable, readAt, lent}
 use Rattle.medium.proofs.Bytes.{fits-up}
 use Rattle.medium.proofs.Places.{width-is}
 use Rattle.medium.proofs.Checks.{fine-of-check}
+use Rattle.medium.proofs.Ranges.{read-lent, read-refused}
 use Rattle.objects.specs.declared.header.ObjectHeader.{ObjectHeader}
 use Rattle.objects.specs.declared.iterator.ObjectIterator.{ObjectIterator}
 use Rattle.objects.specs.declared.iterator.Next.{Next}
@@ -24,12 +25,12 @@ use Rattle.objects.specs.declared.iterator.Next.the-variants as next
 use Rattle.objects.specs.Info.{totalOf, spanOf}
 use Rattle.objects.specs.Listing.{nextOf, Listing, listBy, listFrom}
 use Rattle.objects.proofs.Answers.{or-on, then-on}
+use Rattle.objects.proofs.Reading.{read-length}
 use Rattle.objects.proofs.Listing.{unroll}
 use Rattle.blocks.specs.declared.header.BlockHeaderKind.{BlockHeaderKind}
 use Rattle.blocks.specs.declared.header.BlockHeader.{BlockHeader}
 use Rattle.blocks.specs.Scan.{behindWritten, writtenIn, recordOf, scanUnknown, isAllocated, listed, isFreeable, freeableIn, freeable, scanBy, scanBlock}
 use Rattle.blocks.specs.BlockHeader.{blockHeaderAt}
-use Rattle.blocks.proofs.Formats.{read-reached, read-unreached}
 
 -- ---- the last written byte
 
@@ -67,19 +68,19 @@ written-most (b ∷ l) = go b (writtenIn l) (written-most l)
     go b zero h = first (eqb b 255)
     go b (suc m) h = omega arith
 
-module _ (g : Geometry) (b : ℕ) (h : BlockHeader) (img : List ℕ) (r : ℕ) (e : r ≡ erasable g (length img) b) where
-  whole : geometryOk g ≡ true → 0 + g .size ≤ g .size
-  whole q = omega arith
-
-  pub unknown-unreached : (r ≡ 0 → ⊥) → scanUnknown g b h img ≡ refused r
+-- the scan of an Unknown block, from the bytes that were lent
+module _ (g : Geometry) (b : ℕ) (h : BlockHeader) (img : List ℕ) (r : ℕ) (e : r ≡ readable g (length img) b 0 (g .size)) where
+  pub unknown-refused : (r ≡ 0 → ⊥) → scanUnknown g b h img ≡ refused r
   unfolding scanUnknown
-  unknown-unreached z = rw (read-unreached g b 0 (g .size) img r whole e z)
+  unknown-refused z = rw (read-refused g b 0 (g .size) img r e z)
 
-  pub unknown-told : (a n m : ℕ) → a ≡ b * g .size → n ≡ g .size → m ≡ writtenIn (take n (drop a img)) → r ≡ 0 → scanUnknown g b h img ≡ done (recordOf h m false)
-  unfolding scanUnknown
-  unknown-told a n m ea en em z =
-      let o : b * g .size + 0 ≡ b * g .size = omega arith in
-      rw (read-reached g b 0 (g .size) img r whole e z, em, en, ea, o)
+  module _ (bs : List ℕ) (m : ℕ) (q : bs ≡ lent (readAt g b 0 (g .size) img)) (w : m ≡ writtenIn bs) (z : r ≡ 0) where
+    pub unknown-lent : scanUnknown g b h img ≡ done (recordOf h m false)
+    unfolding scanUnknown
+    unknown-lent = rw (read-lent g b 0 (g .size) img r e bs q z, w)
+
+    pub unknown-within : m ≤ g .size
+    unknown-within = omega (arith, w, written-most bs, read-length g b 0 (g .size) img bs (read-lent g b 0 (g .size) img r e bs q z))
 
 -- ---- listing, step by step
 

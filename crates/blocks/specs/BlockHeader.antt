@@ -1,15 +1,14 @@
 -- "BA 01, layout byte (s·64 + c·4 + 1 for either Word, 0 for Bit), then type at byte 3, or at byte 8 under Word(4) with byte 3 FF. Erase
 -- count in bytes 4 to 7, low first. Length 8, under Word(4) 12; unnamed bytes FF. Types: Metadata 55, Data AA, Undefined FF. Kind ignores
 -- the erase count; an all-FF rest is Empty, anything else Unknown."
-use Prim.Native.Nat.{ℕ, _+_, _*_}
+use Prim.Native.Nat.{ℕ, zero, suc, _+_, _-_, _*_}
 use mathlib.Core.List.{List, [], _∷_, _++_}
-use mathlib.Core.Bool.{Bool, true, false, _&&_}
-use lib.ListN.{take, getD}
-use lib.Dec.{eqb}
+use mathlib.Core.Bool.{Bool, true, false, _&&_, _||_}
+use lib.ListN.{take, getD, replicate}
+use lib.Dec.{ltb, leb, eqb}
 use Rattle.medium.specs.declared.granularity.Granularity.{Granularity}
-use Rattle.medium.specs.declared.granularity.Granularity.the-variants.{Bit, Word1, Word4}
 use Rattle.medium.specs.declared.geometry.Geometry.{Geometry}
-use Rattle.medium.specs.Granularity.{pick, blockHeader, typeAt, layoutBit}
+use Rattle.medium.specs.Granularity.{pick, longestBlockHeader, blockHeader, typeAt, layoutBit}
 use Rattle.medium.specs.Operation.{Answer, done, refused, andThen, Op}
 use Rattle.medium.specs.Medium.{readAt, write}
 use Rattle.objects.specs.Numbers.{number, bytes}
@@ -67,13 +66,16 @@ layoutByte g = g .s * 64 + g .c * 4 + layoutBit (g .granularity)
 abbrev pub typeIf : Granularity → ℕ → BlockType → ℕ
 typeIf k at t = pick (eqb (typeAt k) at) (typeByte t) 0xFF
 
--- of which Bit and Word(1) take the first 8
+-- four bytes, the erase count, the far type, and FF up to the longest header
+abbrev pub around : ℕ → ℕ → ℕ → ℕ → ℕ → ℕ → List ℕ
+around first second layout near n far =
+    (first ∷ second ∷ layout ∷ near ∷ []) ++ (bytes 4 n ++ (far ∷ replicate (longestBlockHeader - 9) 0xFF))
+
+-- of which each granularity takes the first
 abbrev pub wideBytes : Geometry → BlockHeaderKind → ℕ → List ℕ
-wideBytes g (Known t) n =
-    (0xBA ∷ 0x01 ∷ layoutByte g ∷ typeIf (g .granularity) 3 t ∷ [])
-    ++ (bytes 4 n ++ (typeIf (g .granularity) 8 t ∷ 0xFF ∷ 0xFF ∷ 0xFF ∷ []))
-wideBytes g Empty n = (0xFF ∷ 0xFF ∷ 0xFF ∷ 0xFF ∷ []) ++ (bytes 4 n ++ (0xFF ∷ 0xFF ∷ 0xFF ∷ 0xFF ∷ []))
-wideBytes g Unknown n = (0xFF ∷ 0xFF ∷ 0xFF ∷ 0xFF ∷ []) ++ (bytes 4 n ++ (0xFF ∷ 0xFF ∷ 0xFF ∷ 0xFF ∷ []))
+wideBytes g (Known t) n = around 0xBA 0x01 (layoutByte g) (typeIf (g .granularity) 3 t) n (typeIf (g .granularity) 8 t)
+wideBytes g Empty n = around 0xFF 0xFF 0xFF 0xFF n 0xFF
+wideBytes g Unknown n = around 0xFF 0xFF 0xFF 0xFF n 0xFF
 
 unfoldable pub headerBytes : Geometry → BlockHeader → List ℕ
 headerBytes g h = take (blockHeader (g .granularity)) (wideBytes g (h .kind) (h .«erase_count»))
@@ -83,14 +85,18 @@ writeHeader g b h = write g b 0 (headerBytes g h)
 
 -- ---- what bytes say
 
-unfoldable pub padded : List ℕ → Bool
-padded bs = eqb (getD bs 3 0) 0xFF && eqb (getD bs 9 0) 0xFF && eqb (getD bs 10 0) 0xFF && eqb (getD bs 11 0) 0xFF
+-- the bytes that a rule names: BA 01 and the layout, the type, and "Erase count in bytes 4 to 7"
+abbrev pub named : Granularity → ℕ → Bool
+named k i = ltb i 3 || (eqb i (typeAt k) || (leb 4 i && ltb i 8))
 
--- "unnamed bytes FF": Word(4) alone has such bytes
-abbrev pub unnamed : Granularity → List ℕ → Bool
-unnamed Bit bs = true
-unnamed Word1 bs = true
-unnamed Word4 bs = padded bs
+-- of n bytes from i on, those that no rule names are FF
+abbrev pub paddedFrom : Granularity → ℕ → ℕ → List ℕ → Bool
+paddedFrom k i zero bs = true
+paddedFrom k i (suc n) bs = (named k i || eqb (getD bs i 0) 0xFF) && paddedFrom k (i + 1) n bs
+
+-- "unnamed bytes FF"
+unfoldable pub padded : Granularity → List ℕ → Bool
+padded k bs = paddedFrom k 0 (blockHeader k) bs
 
 unfoldable pub marked : ℕ → List ℕ → Bool
 marked layout bs = eqb (getD bs 0 0) 0xBA && eqb (getD bs 1 0) 0x01 && eqb (getD bs 2 0) layout
@@ -108,7 +114,7 @@ unfoldable pub namedKind : ℕ → ℕ → List ℕ → BlockHeaderKind
 namedKind layout t bs = pick (marked layout bs) (kindOfType t) (pick (blank bs t) Empty Unknown)
 
 unfoldable pub kindIn : Geometry → List ℕ → BlockHeaderKind
-kindIn g bs = pick (unnamed (g .granularity) bs) (namedKind (layoutByte g) (getD bs (typeAt (g .granularity)) 0) bs) Unknown
+kindIn g bs = pick (padded (g .granularity) bs) (namedKind (layoutByte g) (getD bs (typeAt (g .granularity)) 0) bs) Unknown
 
 abbrev pub eraseCountIn : List ℕ → ℕ
 eraseCountIn bs = number (getD bs 4 0 ∷ getD bs 5 0 ∷ getD bs 6 0 ∷ getD bs 7 0 ∷ [])
@@ -126,6 +132,6 @@ abbrev pub headerNumber : BlockHeaderRead → ℕ
 headerNumber (read.Got h) = 0
 headerNumber (read.Refused n) = n
 
--- twelve bytes are read whatever the header's length is
+-- as many bytes are read as the longest header has
 unfoldable pub blockHeaderAt : Geometry → ℕ → List ℕ → Answer BlockHeader
-blockHeaderAt g b img = andThen (readAt g b 0 12 img) (λ bs. done (headerIn g bs))
+blockHeaderAt g b img = andThen (readAt g b 0 longestBlockHeader img) (λ bs. done (headerIn g bs))

@@ -2,4 +2,5 @@ pub mod BlockHeader
 pub mod Format
 pub mod Record
 pub mod Scan
+pub mod Formatted
 pub mod Rows

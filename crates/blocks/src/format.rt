@@ -8,8 +8,7 @@ use medium::fuse::Stored;
 use medium::geometry::Geometry;
 ghost use mathlib.Core.Path.{_≡_};
 ghost use Rattle.medium.specs.Operation.{run, ended};
-ghost use Rattle.medium.specs.Medium.{erasable};
-ghost use Rattle.blocks.specs.Format.{allFF, dataEmptyAt, emptinessAnswer, emptinessNumber, planEmpty, planUndefined, planKnown, planOf, planAt, planNumber, labelling, renewing, formatBlock, formatStorage, setBlockType};
+ghost use Rattle.blocks.specs.Format.{allFF, dataLength, dataEmptyAt, emptinessAnswer, emptinessNumber, planEmpty, planUndefined, planKnown, planOf, planAt, planNumber, labelling, renewing, formatBlock, formatStorage, setBlockType};
 
 // Whether anything is written in a range that was asked for.
 pub enum Emptiness {
@@ -51,20 +50,6 @@ impl Plan {
     }
 }
 
-// Why a block cannot be reached, or 0: 6, 7, or 3 for a block that is not there.
-pub(crate) fn reach(g: Geometry, room: usize, block: u32) -> u8
-    ensures { λ r. ⌜ r ≡ erasable g room block ⌝ }
-{
-    let bad = medium::geometry::check(g, room);
-    if bad != 0 {
-        return bad;
-    }
-    if g.count <= block {
-        return 3;
-    }
-    0
-}
-
 fn is_erased(part: &[u8]) -> bool
     ensures { λ r. ⌜ r ≡ allFF (now (part .entry)) ⌝ }
 {
@@ -78,19 +63,28 @@ fn is_erased(part: &[u8]) -> bool
     true
 }
 
+// How many bytes a block has behind its header.
+fn data_length(g: Geometry) -> usize
+    ensures { λ r. ⌜ r ≡ dataLength g ⌝ }
+{
+    let k = g.granularity;
+    let n = k.block_header();
+    let size = g.size as usize;
+    if size < n { 0 } else { size - n }
+}
+
 // Whether all bytes behind the header are FF.
 pub fn is_block_data_empty(g: Geometry, image: &[u8], block: u32) -> Emptiness
     ensures { λ r. ⌜ emptinessAnswer r ≡ dataEmptyAt g block (now (image .entry)) ⌝ }
 {
-    let bad = reach(g, image.len(), block);
+    let k = g.granularity;
+    let at = k.block_header();
+    let n = data_length(g);
+    let bad = medium::reach(g, image.len(), block, at, n);
     if bad != 0 {
         return Emptiness::Refused(bad);
     }
-    let size = g.size as usize;
-    let k = g.granularity;
-    let at = (block as usize) * size + k.block_header();
-    let end = (block as usize) * size + size;
-    if is_erased(&image[at..end]) {
+    if is_erased(medium::lend(g, image, block, at, n)) {
         return Emptiness::Empty;
     }
     Emptiness::Written

@@ -5,12 +5,11 @@ use medium::fuse::Stored;
 use medium::geometry::Geometry;
 use medium::granularity::Granularity;
 ghost use mathlib.Core.Path.{_≡_};
-ghost use mathlib.Core.List.{[], _∷_, _++_};
 ghost use Prim.Native.Nat.{_≤_};
 ghost use lib.ListN.{length};
 ghost use Rattle.medium.specs.Operation.{run, ended};
-ghost use Rattle.objects.specs.Numbers.{bytes};
-ghost use Rattle.blocks.specs.BlockHeader.{typeByte, typeNumber, kindNumber, isEmptyKind, isKnown, isUnknown, isEmpty, layoutByte, typeIf, wideBytes, writeHeader, padded, unnamed, marked, blank, kindOfType, namedKind, kindIn, eraseCountIn, headerAnswer, headerNumber, blockHeaderAt};
+ghost use Rattle.medium.specs.Granularity.{longestBlockHeader};
+ghost use Rattle.blocks.specs.BlockHeader.{typeByte, typeNumber, kindNumber, isEmptyKind, isKnown, isUnknown, isEmpty, layoutByte, typeIf, wideBytes, writeHeader, named, padded, marked, blank, kindOfType, namedKind, kindIn, eraseCountIn, headerAnswer, headerNumber, blockHeaderAt};
 ghost use Rattle.blocks.specs.Record.{kindOf, kindAnswer, kindReadNumber};
 
 pub enum BlockType {
@@ -140,14 +139,14 @@ impl BlockHeaderKind {
 
     // What the bytes say, the erase count apart.
     fn from_bytes(g: Geometry, raw: &[u8]) -> BlockHeaderKind
-        requires { ⌜ length (now raw) ≡ 12 ⌝ }
+        requires { ⌜ length (now raw) ≡ longestBlockHeader ⌝ }
         requires { ⌜ (g .s ≤ 3) × (g .c ≤ 3) ⌝ }
         ensures { λ r. ⌜ r ≡ kindIn g (now (raw .entry)) ⌝ }
     {
         let k = g.granularity;
         let at = k.type_at();
         let t = raw[at];
-        if is_unnamed(k, raw) {
+        if is_padded(k, raw) {
             return BlockHeaderKind::named(raw, layout(g), t);
         }
         BlockHeaderKind::Unknown
@@ -155,7 +154,7 @@ impl BlockHeaderKind {
 
     // The same by the bytes that are named, with the type t.
     fn named(raw: &[u8], layout: u8, t: u8) -> BlockHeaderKind
-        requires { ⌜ length (now raw) ≡ 12 ⌝ }
+        requires { ⌜ length (now raw) ≡ longestBlockHeader ⌝ }
         ensures { λ r. ⌜ r ≡ namedKind layout t (now (raw .entry)) ⌝ }
     {
         if is_marked(raw, layout) {
@@ -177,37 +176,45 @@ fn layout(g: Geometry) -> u8
     g.s * 64 + g.c * 4 + k.layout_bit()
 }
 
-// Whether the bytes that no rule names are FF: Word(4) alone has such bytes.
-fn is_unnamed(k: Granularity, raw: &[u8]) -> bool
-    requires { ⌜ length (now raw) ≡ 12 ⌝ }
-    ensures { λ r. ⌜ r ≡ unnamed k (now (raw .entry)) ⌝ }
+// Whether a rule names this byte of a header: the mark and the layout, the erase count, or the type.
+fn is_named(k: Granularity, i: usize) -> bool
+    ensures { λ r. ⌜ r ≡ named k i ⌝ }
 {
-    match k {
-        Granularity::Bit => true,
-        Granularity::Word1 => true,
-        Granularity::Word4 => is_padded(raw),
+    if i < 3 {
+        return true;
     }
+    if i == k.type_at() {
+        return true;
+    }
+    if i < 4 {
+        return false;
+    }
+    i < 8
 }
 
-fn is_padded(raw: &[u8]) -> bool
-    requires { ⌜ length (now raw) ≡ 12 ⌝ }
-    ensures { λ r. ⌜ r ≡ padded (now (raw .entry)) ⌝ }
+// Whether the bytes of a header that no rule names are FF.
+fn is_padded(k: Granularity, raw: &[u8]) -> bool
+    requires { ⌜ length (now raw) ≡ longestBlockHeader ⌝ }
+    ensures { λ r. ⌜ r ≡ padded k (now (raw .entry)) ⌝ }
 {
-    if raw[3] != 0xFF {
-        return false;
+    let n = k.block_header();
+    let mut i = 0;
+    while i < n {
+        if is_named(k, i) {
+            i += 1;
+            continue;
+        }
+        if raw[i] != 0xFF {
+            return false;
+        }
+        i += 1;
     }
-    if raw[9] != 0xFF {
-        return false;
-    }
-    if raw[10] != 0xFF {
-        return false;
-    }
-    raw[11] == 0xFF
+    true
 }
 
 // Whether a header begins as that of a formatted block.
 fn is_marked(raw: &[u8], layout: u8) -> bool
-    requires { ⌜ length (now raw) ≡ 12 ⌝ }
+    requires { ⌜ length (now raw) ≡ longestBlockHeader ⌝ }
     ensures { λ r. ⌜ r ≡ marked layout (now (raw .entry)) ⌝ }
 {
     if raw[0] != 0xBA {
@@ -221,7 +228,7 @@ fn is_marked(raw: &[u8], layout: u8) -> bool
 
 // Whether all that is named is FF, the type t too.
 fn is_blank(raw: &[u8], t: u8) -> bool
-    requires { ⌜ length (now raw) ≡ 12 ⌝ }
+    requires { ⌜ length (now raw) ≡ longestBlockHeader ⌝ }
     ensures { λ r. ⌜ r ≡ blank (now (raw .entry)) t ⌝ }
 {
     if raw[0] != 0xFF {
@@ -238,7 +245,7 @@ fn is_blank(raw: &[u8], t: u8) -> bool
 
 // The erase count, low byte first.
 fn count(raw: &[u8]) -> u32
-    requires { ⌜ length (now raw) ≡ 12 ⌝ }
+    requires { ⌜ length (now raw) ≡ longestBlockHeader ⌝ }
     ensures { λ r. ⌜ r ≡ eraseCountIn (now (raw .entry)) ⌝ }
 {
     let a = raw[4] as u32;
@@ -255,30 +262,30 @@ fn type_if(k: Granularity, at: usize, t: BlockType) -> u8
     if k.type_at() == at { t.byte() } else { 0xFF }
 }
 
-// The bytes of a header around its erase count, which stands low byte first: four before it, and the far type behind it.
-fn around(first: u8, second: u8, layout: u8, near: u8, n: u32, far: u8) -> [u8; 12]
-    ensures { λ r. ⌜ r ≡ (first ∷ second ∷ layout ∷ near ∷ []) ++ (bytes 4 n ++ (far ∷ 0xFF ∷ 0xFF ∷ 0xFF ∷ [])) ⌝ }
+// The bytes of a header around its erase count, which stands low byte first: four before it, and the far type and FF behind it.
+fn around(
+    first: u8,
+    second: u8,
+    layout: u8,
+    near: u8,
+    n: u32,
+    far: u8,
+) -> [u8; Granularity::LONGEST_BLOCK_HEADER]
+    ensures { λ r. ⌜ r ≡ Rattle.blocks.specs.BlockHeader.around first second layout near n far ⌝ }
 {
     let two = n / 256;
     let three = two / 256;
-    let a = (n % 256) as u8;
-    let b = (two % 256) as u8;
-    let c = (three % 256) as u8;
-    let d = (three / 256 % 256) as u8;
-    [
-        first,
-        second,
-        layout,
-        near,
-        a,
-        b,
-        c,
-        d,
-        far,
-        0xFF,
-        0xFF,
-        0xFF,
-    ]
+    let mut raw = [0xFF; Granularity::LONGEST_BLOCK_HEADER];
+    raw[0] = first;
+    raw[1] = second;
+    raw[2] = layout;
+    raw[3] = near;
+    raw[4] = (n % 256) as u8;
+    raw[5] = (two % 256) as u8;
+    raw[6] = (three % 256) as u8;
+    raw[7] = (three / 256 % 256) as u8;
+    raw[8] = far;
+    raw
 }
 
 pub struct BlockHeader {
@@ -304,7 +311,7 @@ impl BlockHeaderRead {
 
 impl BlockHeader {
     fn read_into(g: Geometry, image: &[u8], block: u32, raw: &mut [u8]) -> BlockHeaderRead
-        requires { ⌜ length (now raw) ≡ 12 ⌝ }
+        requires { ⌜ length (now raw) ≡ longestBlockHeader ⌝ }
         ensures { λ r. ⌜ headerAnswer r ≡ blockHeaderAt g block (now (image .entry)) ⌝ }
     {
         let a = medium::read(g, image, block, 0, raw);
@@ -321,12 +328,12 @@ impl BlockHeader {
     pub fn read(g: Geometry, image: &[u8], block: u32) -> BlockHeaderRead
         ensures { λ r. ⌜ headerAnswer r ≡ blockHeaderAt g block (now (image .entry)) ⌝ }
     {
-        let mut buffer = [0u8; 12];
+        let mut buffer = [0u8; Granularity::LONGEST_BLOCK_HEADER];
         BlockHeader::read_into(g, image, block, &mut buffer)
     }
 
-    // Twelve bytes, of which a header of 8 is the first.
-    fn into_bytes(self, g: Geometry) -> [u8; 12]
+    // As many bytes as the longest header has, of which this one is the first.
+    fn into_bytes(self, g: Geometry) -> [u8; Granularity::LONGEST_BLOCK_HEADER]
         requires { ⌜ (g .s ≤ 3) × (g .c ≤ 3) ⌝ }
         ensures { λ r. ⌜ r ≡ wideBytes g (self .kind) (self .«erase_count») ⌝ }
     {

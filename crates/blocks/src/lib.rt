@@ -8,7 +8,7 @@
 // refuses with 2 a known block whose count is at its end. A scan makes a block's record: kind, erase count, used bytes, and whether new objects
 // may be allocated behind the last one.
 //
-// Always true: a block that was formatted with power scans as Undefined, with only its header used.
+// Always true: a block that was formatted with power scans as Undefined, with only its header used (specs/Formatted.antt).
 pub mod format;
 pub mod header;
 pub mod record;

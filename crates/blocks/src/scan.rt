@@ -1,5 +1,4 @@
 // Scanning a block: its record, read off its bytes.
-use crate::format;
 use crate::header::BlockHeader;
 use crate::header::BlockHeaderKind;
 use crate::header::BlockHeaderRead;
@@ -41,13 +40,12 @@ fn last_written(part: &[u8]) -> usize
 fn scan_unknown(g: Geometry, image: &[u8], block: u32, h: BlockHeader) -> BlockInfoRead
     ensures { λ r. ⌜ infoAnswer r ≡ scanUnknown g block h (now (image .entry)) ⌝ }
 {
-    let bad = format::reach(g, image.len(), block);
+    let size = g.size as usize;
+    let bad = medium::reach(g, image.len(), block, 0, size);
     if bad != 0 {
         return BlockInfoRead::Refused(bad);
     }
-    let size = g.size as usize;
-    let at = (block as usize) * size;
-    let used = last_written(&image[at..at + size]);
+    let used = last_written(medium::lend(g, image, block, 0, size));
     BlockInfoRead::Got(BlockInfo {
         header: h,
         used_bytes: used as u32,

@@ -10,9 +10,8 @@ use Rattle.medium.specs.declared.geometry.Geometry.{Geometry}
 use Rattle.medium.specs.Granularity.{pick}
 use Rattle.medium.specs.Geometry.{checkOf}
 use Rattle.medium.specs.Operation.{Answer, done, refused, numberOf}
-use Rattle.medium.proofs.Checks.{admit-stop, admit-pass, admitted, picked}
+use Rattle.medium.proofs.Checks.{admit-stop, admit-pass, admitted, passed, picked}
 use Rattle.blocks.specs.declared.record.BlockInfo.{BlockInfo}
-use Rattle.blocks.proofs.Headers.{passed}
 use Rattle.collector.specs.Table.{recordAt, possibleFrom, collectable}
 
 -- ---- record by record

@@ -11,8 +11,8 @@ type-at-requires c κs = search needs
 shared-slice-read-t : tie.Need-shared-slice-read-t
 shared-slice-read-t c = omega (arith, c .before .before .before .pre, c .before .type-at .ensures, type-within (c .before .before .before .args .g .granularity))
 
-is-unnamed-requires : tie.Need-is-unnamed-requires
-is-unnamed-requires c κs = search needs
+is-padded-requires : tie.Need-is-padded-requires
+is-padded-requires c κs = search needs
 
 layout-requires : tie.Need-layout-requires
 layout-requires c κs = search needs
@@ -22,11 +22,11 @@ named-requires c κs = search needs
 
 returns : tie.Need-returns
 unfolding kindIn
-returns c = rw (← c .before .before .before .before .before .type-at .ensures, ← c .before .before .before .is-unnamed .ensures, c .before .before .if1 .taken, ← c .before .layout .ensures) (c .named .ensures)
+returns c = rw (← c .before .before .before .before .before .type-at .ensures, ← c .before .before .before .is-padded .ensures, c .before .before .if1 .taken, ← c .before .layout .ensures) (c .named .ensures)
 
 returns-2 : tie.Need-returns-2
 unfolding kindIn
-returns-2 c = rw (← c .before .is-unnamed .ensures, c .if1 .left)
+returns-2 c = rw (← c .before .is-padded .ensures, c .if1 .left)
 
 pub from-bytes-spec : {M : Type 1} → statement M
 from-bytes-spec =
@@ -34,7 +34,7 @@ from-bytes-spec =
     (tie.spec
     type-at-requires
     shared-slice-read-t
-    is-unnamed-requires
+    is-padded-requires
     layout-requires
     named-requires
     returns
