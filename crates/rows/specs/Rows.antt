@@ -3,24 +3,26 @@ use mathlib.Core.Bool.{Bool, true, false, _&&_, not}
 use mathlib.Core.Path.{_≡_, refl}
 use mathlib.Core.List.{List, [], _∷_, _++_}
 use Prim.Native.Nat.{ℕ, _+_, _-_}
-use lib.ListN.{length, getD, replicate}
+use lib.ListN.{getD, replicate}
 use lib.Dec.{eqb}
 use Rattle.medium.specs.declared.granularity.Granularity.{Granularity}
 use Rattle.medium.specs.declared.granularity.Granularity.the-variants.{Bit, Word1, Word4}
-use Rattle.medium.specs.declared.geometry.Geometry.{Geometry}
 use Rattle.medium.specs.declared.fuse.Fuse.the-variants.{Absent, Units}
 use Rattle.medium.specs.Geometry.{geometryOk, admit, fitOf}
-use Rattle.medium.specs.Operation.{Answer, done, refused, andThen, flash, Run, Op, _>>=_, _>>_, ask, test, putting, refuse, run, numberOf}
+use Rattle.medium.specs.Operation.{Answer, done, refused, Op, _>>=_, _>>_, ask, test, putting, refuse, run, numberOf}
 use Rattle.medium.specs.Medium.{readable, writable, erasable, readAt, write, erase}
+use Rattle.medium.specs.Bench.{four, holding, all, same, row, quiet}
 use Rattle.objects.specs.declared.types.ObjectType.the-variants.{FileData}
 use Rattle.objects.specs.declared.state.ObjectDataState.the-variants.{Deleted}
 use Rattle.objects.specs.declared.state.ObjectState.the-variants as state
 use Rattle.objects.specs.declared.state.CompositeObjectState.{CompositeObjectState}
+use Rattle.objects.specs.declared.state.CompositeObjectState.the-variants as comp
 use Rattle.objects.specs.declared.location.ObjectLocation.{ObjectLocation}
 use Rattle.objects.specs.declared.header.ObjectHeader.{ObjectHeader}
+use Rattle.objects.specs.declared.reader.ObjectReader.{ObjectReader}
 use Rattle.objects.specs.declared.header.PayloadSize.{PayloadSize}
 use Rattle.objects.specs.declared.header.PayloadSize.the-variants.{Set, Unset}
-use Rattle.objects.specs.Types.{typeOf, markOf, pairOf, marksOf, stateIn, rankOf}
+use Rattle.objects.specs.Types.{typeByte, typeOf, markOf, pairOf, marksOf, stateIn, rankOf}
 use Rattle.objects.specs.Header.{stateAt, sizedAt, headerAt, payloadSizeOf, payloadOf, allocatableOf, marking, setState, staying, updateState, sizableOf, setPayloadSize}
 use Rattle.objects.specs.Info.{infoAt, totalOf, spanOf}
 use Rattle.objects.specs.Reader.{Chunk, readerAt, remainingOf, leftOf, readSome}
@@ -34,22 +36,7 @@ use Rattle.writer.specs.declared.writer.ObjectWriter.{ObjectWriter}
 use Rattle.writer.specs.Writer.{soundOf, allocate, appendable, putBytes, append, finishable, flush, close, finalize, delete, writeTo}
 use Rattle.writer.specs.Moving.{sourceAt, chunk, copying, copyObject, moveObject}
 
--- ---- tests
-
-abbrev same : List ℕ → List ℕ → Bool
-same [] [] = true
-same [] (y ∷ ys) = false
-same (x ∷ xs) [] = false
-same (x ∷ xs) (y ∷ ys) = eqb x y && same xs ys
-
-abbrev all : List Bool → Bool
-all [] = true
-all (b ∷ bs) = b && all bs
-
--- ---- A is Bit, B is Word(4), C is Word(1); 256-byte blocks, 4 of them, s = c = 1
-
-abbrev geometry : Granularity → Geometry
-geometry k = record { granularity = k; s = 1; c = 1; size = 256; count = 4 }
+-- ---- A is `four Bit`, B is `four Word4`, C is `four Word1`
 
 abbrev place : ℕ → ℕ → ObjectLocation
 place b o = record { block = b; offset = o }
@@ -57,17 +44,13 @@ place b o = record { block = b; offset = o }
 abbrev blank : List ℕ
 blank = replicate 1024 255
 
--- bytes at an offset of block 0, and FF
-abbrev holding : ℕ → List ℕ → List ℕ
-holding at bs = replicate at 255 ++ bs ++ replicate (1024 - (at + length bs)) 255
-
 -- "Obj" is FileData of chunks 41 42 and 43
 abbrev obj : Granularity → ℕ → Op ObjectWriter
 obj k at = do
-  w ← allocate (geometry k) (place 0 at) FileData
-  w₁ ← append (geometry k) w (0x41 ∷ 0x42 ∷ [])
-  w₂ ← append (geometry k) w₁ (0x43 ∷ [])
-  finalize (geometry k) w₂
+  w ← allocate (four k) (place 0 at) FileData
+  w₁ ← append (four k) w (0x41 ∷ 0x42 ∷ [])
+  w₂ ← append (four k) w₁ (0x43 ∷ [])
+  finalize (four k) w₂
 
 -- ---- rows 1 to 3: the bytes, the total, the next offset
 
@@ -78,7 +61,7 @@ bytesTest k at total next (refused n) = false
 abbrev written : Granularity → ℕ → List ℕ → ℕ → ℕ → Bool
 written k at bs total next =
     let e = run Absent (obj k at) blank in
-    bytesTest k at total next (e .answer) && same (e .state) (holding at bs)
+    bytesTest k at total next (e .answer) && same (e .state) (holding 1024 at bs)
 
 -- ---- row 4: the state after a cut. Free 0, Allocated 1, Finalized 2, Deleted 3
 
@@ -87,12 +70,12 @@ rankIn (done s) = rankOf s
 rankIn (refused n) = 9
 
 abbrev cutAt : ℕ → ℕ → Bool
-cutAt k rank = let e = run (Units k) (obj Bit 8) blank in eqb (rankIn (stateAt (geometry Bit) (place 0 8) (e .state))) rank
+cutAt k rank = let e = run (Units k) (obj Bit 8) blank in eqb (rankIn (stateAt (four Bit) (place 0 8) (e .state))) rank
 
 -- ---- row 5: an object that fills the block from 8 on up to an offset, and an empty one behind it
 
 abbrev filled : ℕ → List ℕ
-filled at = holding 8 (0x8E ∷ 0xF0 ∷ (at - 11) ∷ replicate (at - 11) 0x41 ++ 0x8E ∷ 0xF0 ∷ 0x00 ∷ [])
+filled at = holding 1024 8 (0x8E ∷ 0xF0 ∷ (at - 11) ∷ replicate (at - 11) 0x41 ++ 0x8E ∷ 0xF0 ∷ 0x00 ∷ [])
 
 abbrev offsets : List Visit → List ℕ
 offsets [] = []
@@ -105,15 +88,15 @@ atEnd (broken n) = false
 
 abbrev listed : ℕ → List ℕ → Bool
 listed at visits =
-    let l = listing (geometry Bit) 0 (filled at) in
-    eqb (rankIn (stateAt (geometry Bit) (place 0 at) (filled at))) 2 && same (offsets (l .visits)) visits && atEnd (l .stop)
+    let l = listing (four Bit) 0 (filled at) in
+    eqb (rankIn (stateAt (four Bit) (place 0 at) (filled at))) 2 && same (offsets (l .visits)) visits && atEnd (l .stop)
 
 -- ---- row 6: bytes that are no header
 
 abbrev corrupted : List ℕ → Bool
 corrupted bs =
-    let img = holding 8 bs in
-    eqb (numberOf (headerAt (geometry Bit) (place 0 8) img)) 2 && eqb (numberOf (infoAt (geometry Bit) (place 0 8) img)) 2
+    let img = holding 1024 8 bs in
+    eqb (numberOf (headerAt (four Bit) (place 0 8) img)) 2 && eqb (numberOf (infoAt (four Bit) (place 0 8) img)) 2
 
 -- ---- row 7: an unset size
 
@@ -126,36 +109,29 @@ unsetTest (done h) total = isUnset (payloadSizeOf 1 h) && eqb (totalOf Bit 1 h) 
 unsetTest (refused n) total = false
 
 abbrev unset : List ℕ → ℕ → Bool
-unset bs total = unsetTest (headerAt (geometry Bit) (place 0 8) (holding 8 bs)) total
+unset bs total = unsetTest (headerAt (four Bit) (place 0 8) (holding 1024 8 bs)) total
 
 -- ---- row 8: a Deleted object, by its writer and by its header
 
--- answers a number, and stores nothing
-abbrev quiet : {A : Type 0} → Run flash A → ℕ → Bool
-quiet r n = eqb (numberOf (r .answer)) n && eqb (length (r .events)) 0
-
 abbrev byWriter : Granularity → Answer ObjectWriter → List ℕ → Bool
-byWriter k (done w) img = quiet (delete (geometry k) w img) 0 && quiet (finalize (geometry k) w img) 4
+byWriter k (done w) img = quiet (delete (four k) w img) 0 && quiet (finalize (four k) w img) 4
 byWriter k (refused n) img = false
 
 abbrev byHeader : Granularity → Answer ObjectHeader → List ℕ → Bool
 byHeader k (done h) img =
-    eqb (rankOf (h .state)) 3 && quiet (updateState (geometry k) h state.Deleted img) 0
-    && quiet (updateState (geometry k) h state.Finalized img) 4
+    eqb (rankOf (h .state)) 3 && quiet (updateState (four k) h state.Deleted img) 0
+    && quiet (updateState (four k) h state.Finalized img) 4
 byHeader k (refused n) img = false
 
 abbrev deletedTwice : Granularity → ℕ → Bool
 deletedTwice k at =
-    let e = run Absent (obj k at >>= delete (geometry k)) blank in
-    byWriter k (e .answer) (e .state) && byHeader k (headerAt (geometry k) (place 0 at) (e .state)) (e .state)
+    let e = run Absent (obj k at >>= delete (four k)) blank in
+    byWriter k (e .answer) (e .state) && byHeader k (headerAt (four k) (place 0 at) (e .state)) (e .state)
 
--- ---- rows 9 and 10: a block's header, and FF behind it; an operation on it gives this number and leaves this image
+-- ---- rows 9 and 10: a block's header, and FF behind it
 
 abbrev headed : List ℕ → List ℕ
-headed bs = bs ++ replicate (1024 - length bs) 255
-
-abbrev leaves : Op (Unit {0}) → List ℕ → ℕ → List ℕ → Bool
-leaves o img n after = let e = run Absent o img in eqb (numberOf (e .answer)) n && same (e .state) after
+headed bs = holding 1024 0 bs
 
 -- a Data block whose erase count is FFFFFF00 and n
 abbrev worn : ℕ → List ℕ
@@ -179,11 +155,19 @@ abbrev isPayload : Answer Chunk → Bool
 isPayload (done k) = same (k .bytes) (0x41 ∷ 0x42 ∷ 0x43 ∷ [])
 isPayload (refused n) = false
 
+abbrev isData : CompositeObjectState → Bool
+isData comp.Free = false
+isData (comp.Allocated t d) = eqb (typeByte t) (typeByte FileData)
+
+abbrev isObj : List ℕ → Answer ObjectReader → Bool
+isObj img (done r) = isData (r .object .state) && isPayload (readSome (four Bit) r 16 img)
+isObj img (refused n) = false
+
 abbrev reads : ℕ → List ℕ → Bool
-reads b img = isPayload (andThen (readerAt (geometry Bit) (place b 8) false img) (λ r. readSome (geometry Bit) r 16 img))
+reads b img = isObj img (readerAt (four Bit) (place b 8) false img)
 
 abbrev moving : Answer ObjectHeader → Op ObjectHeader
-moving (done h) = moveObject (geometry Bit) h (place 2 8)
+moving (done h) = moveObject (four Bit) h (place 2 8)
 moving (refused n) = refuse n
 
 abbrev iff : Bool → Bool → Bool
@@ -193,14 +177,14 @@ iff false b = not b
 abbrev moved : ℕ → Bool → Bool → Bool
 moved k original copy =
     let i = run Absent (obj Bit 8) blank in
-    let e = run (Units k) (moving (headerAt (geometry Bit) (place 0 8) (i .state))) (i .state) in
+    let e = run (Units k) (moving (headerAt (four Bit) (place 0 8) (i .state))) (i .state) in
     iff original (reads 0 (e .state)) && iff copy (reads 2 (e .state))
 
 -- ---- row 12: room for an object
 
 abbrev room : ℕ → ℕ → Bool
 room n answer =
-    let e = run Absent (writeTo (geometry Bit) (place 0 8) FileData (replicate n 0x41)) blank in
+    let e = run Absent (writeTo (four Bit) (place 0 8) FileData (replicate n 0x41)) blank in
     eqb (numberOf (e .answer)) answer && eqb (getD (e .state) 8 0) 0x8E
 
 -- ---- the table
@@ -224,9 +208,9 @@ table =
     -- 8. Delete of a Deleted object: 0, nothing stored; finalize of it: 4
     ∷ deletedTwice Bit 8 ∷ deletedTwice Word1 8 ∷ deletedTwice Word4 12
     -- 9. Format of a Data block, erase count 4,294,967,295: 2, nothing stored; 4,294,967,294: header with 4,294,967,295
-    ∷ leaves (formatBlock (geometry Bit) 0) (worn 0xFF) 2 (worn 0xFF) ∷ leaves (formatBlock (geometry Bit) 0) (worn 0xFE) 0 formatted
+    ∷ row Absent (formatBlock (four Bit) 0) (worn 0xFF) 2 Absent (worn 0xFF) ∷ row Absent (formatBlock (four Bit) 0) (worn 0xFE) 0 Absent formatted
     -- 10. Metadata set on a Data block: type byte 00, kind Unknown
-    ∷ leaves (setBlockType (geometry Bit) 0 Metadata) (typed 0xAA) 0 (typed 0x00) ∷ eqb (kindIn (blockHeaderAt (geometry Bit) 0 (typed 0x00))) 1
+    ∷ eqb (kindIn (blockHeaderAt (four Bit) 0 (typed 0xAA))) 3 ∷ row Absent (setBlockType (four Bit) 0 Metadata) (typed 0xAA) 0 Absent (typed 0x00) ∷ eqb (kindIn (blockHeaderAt (four Bit) 0 (typed 0x00))) 1
     -- 11. A, row 1 moved to block 2, offset 8: fuse 5 original only, 6 both, 7 copy only
     ∷ moved 5 true false ∷ moved 6 true true ∷ moved 7 false true
     -- 12. A, `write_to` at 8: 245 bytes done; 246 give 5 and byte 8 is 8E
