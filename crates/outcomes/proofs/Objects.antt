@@ -28,6 +28,10 @@ use Rattle.objects.proofs.metadata.read.Reads as metadata-read
 use Rattle.objects.proofs.metadata.read_at.Reads as metadata-read-at
 use Rattle.objects.proofs.metadata.MetadataObjectHeader.next_object_location.Reads as metadata-MetadataObjectHeader-next-object-location
 use Rattle.objects.proofs.metadata.MetadataObjectHeader.reset.Reads as metadata-MetadataObjectHeader-reset
+use Rattle.objects.proofs.payload.at.Reads as payload-at
+use Rattle.objects.proofs.payload.reach.Reads as payload-reach
+use Rattle.objects.proofs.payload.lend.Reads as payload-lend
+use Rattle.objects.proofs.payload.is_same.Reads as payload-is-same
 use Rattle.objects.proofs.reader.ReaderRead.number.Reads as reader-ReaderRead-number
 use Rattle.objects.proofs.reader.ObjectReader.new.Reads as reader-ObjectReader-new
 use Rattle.objects.proofs.reader.ObjectReader.len.Reads as reader-ObjectReader-len
@@ -121,6 +125,18 @@ metadata-MetadataObjectHeader-next-object-location-one _ _ r r′ e e′ p q = p
 
 pub metadata-MetadataObjectHeader-reset-one : One metadata-MetadataObjectHeader-reset.Post (λ _ r e r′ e′. r ≡ r′)
 metadata-MetadataObjectHeader-reset-one _ _ r r′ e e′ p q = p ∙ sym q
+
+pub payload-at-one : One payload-at.Post (λ _ r e r′ e′. r ≡ r′)
+payload-at-one _ _ r r′ e e′ p q = p .0 ∙ sym (q .0)
+
+pub payload-reach-one : One payload-reach.Post (λ _ r e r′ e′. r ≡ r′)
+payload-reach-one _ _ r r′ e e′ p q = p ∙ sym q
+
+pub payload-lend-one : One payload-lend.Post (λ _ r e r′ e′. now r ≡ now r′)
+payload-lend-one _ _ r r′ e e′ p q = p ∙ sym q
+
+pub payload-is-same-one : One payload-is-same.Post (λ _ r e r′ e′. r ≡ r′)
+payload-is-same-one _ _ r r′ e e′ p q = p ∙ sym q
 
 pub reader-ReaderRead-number-one : One reader-ReaderRead-number.Post (λ _ r e r′ e′. r ≡ r′)
 reader-ReaderRead-number-one _ _ r r′ e e′ p q = p ∙ sym q
