@@ -9,3 +9,6 @@ pub mod Places
 pub mod Checks
 pub mod Ranges
 pub mod Stores
+pub mod Programs
+pub mod Traced
+pub mod Writes

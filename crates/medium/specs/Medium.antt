@@ -9,11 +9,15 @@ use lib.Bits.{bitAnd}
 use Rattle.medium.specs.declared.geometry.Geometry.{Geometry}
 use Rattle.medium.specs.Granularity.{pick, widthOf, alignOf}
 use Rattle.medium.specs.Geometry.{admit, fitOf, address}
-use Rattle.medium.specs.Units.{erased, unitsOf}
+use Rattle.medium.specs.Units.{FlashUnit, erased, unitsOf}
 use Rattle.medium.specs.Operation.{Answer, done, refused, Op, refuse, putting}
 
 abbrev pub part : ℕ → ℕ → List ℕ → List ℕ
 part a n img = take n (drop a img)
+
+-- the units of bytes that are stored at a place of a block
+abbrev pub unitsAt : Geometry → ℕ → ℕ → List ℕ → List FlashUnit
+unitsAt g b o bs = unitsOf (widthOf (g .granularity)) (address g b o) bs
 
 -- the first n bytes programmed, as a loop does it: the data first and then FF
 abbrev pub onto : ℕ → List ℕ → List ℕ → List ℕ

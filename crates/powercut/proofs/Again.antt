@@ -2,13 +2,11 @@
 -- as good as once.
 use mathlib.Core.Path.{_≡_, refl, sym, ap, _∙_, subst}
 use mathlib.Core.Logic.{_⊎_, inl, inr}
-use mathlib.Core.Bool.{Bool, true, false}
 use mathlib.Core.List.{List, [], _∷_, _++_}
-use Prim.Native.Nat.{ℕ, _+_, _≤_, _<_, max}
+use Prim.Native.Nat.{ℕ, _+_, _≤_, max}
 use native.Mathlib.Omega.{arith}
 use lib.ListN.{length, take}
 use lib.Seq.{take-all}
-use lib.Dec.{leb}
 use borrow.Author.Tests.{eq-eqb}
 use Rattle.medium.specs.declared.granularity.Granularity.{Granularity}
 use Rattle.medium.specs.declared.geometry.Geometry.{Geometry}
@@ -17,7 +15,7 @@ use Rattle.medium.specs.declared.fuse.Fuse.the-variants.{Absent, Units}
 use Rattle.medium.specs.Granularity.{widthOf, finishAt, deleteAt, finishMark, sizeAt, header}
 use Rattle.medium.specs.Geometry.{checkOf}
 use Rattle.medium.specs.Units.{FlashUnit}
-use Rattle.medium.specs.Operation.{flash, apply, cost, done, refused, Run, Op, End, next, cutBy, cut, run, _>>=_, _>>_, ask, give}
+use Rattle.medium.specs.Operation.{flash, apply, done, refused, End, next, cut, run, _>>=_, _>>_, ask, give}
 use Rattle.medium.specs.Medium.{write}
 use Rattle.objects.specs.declared.types.ObjectType.{ObjectType}
 use Rattle.objects.specs.declared.state.ObjectDataState.the-variants.{Untrusted, Valid, Deleted}
@@ -34,44 +32,15 @@ use Rattle.writer.specs.Moving.{payloadAt, sourceAt, turnsOf, copying, copyObje
 use Rattle.powercut.specs.Demand.{addressOf, payloadIn, copyOf, unitsTo}
 use Rattle.powercut.specs.Stores.{typeUnits, payUnits, sizeUnits, markUnits, deleteUnits, before}
 use Rattle.powercut.specs.Again.{leftBy, goneOf, Resumes, Completes, Again}
-use Rattle.medium.proofs.Runs.{apply-append, prefix-flash, cost-flash, leb-is, leb-yes, leb-no, run-bind, ask-on, ask-stop}
+use Rattle.medium.proofs.Runs.{apply-append, run-bind, ask-on, ask-stop}
 use Rattle.medium.proofs.Bytes.{All, All-append, length-apply}
 use Rattle.medium.proofs.Places.{laid}
-use Rattle.powercut.proofs.Twice.{Programs, store-programs, cut-twice}
+use Rattle.medium.proofs.Programs.{Programs, store-programs, cut-twice}
+use Rattle.medium.proofs.Traced.{ran, state-cut, power-cut, same-cut}
 use Rattle.shown.proofs.Reading.{stateSeen, Stands, state-read}
 use Rattle.powercut.proofs.Crash.{original-before, copy-before, original-between, copy-between}
-use Rattle.powercut.proofs.Ran.{Ready, Able, able, able-on, ran, source-of, move-ran, delete-ran}
+use Rattle.powercut.proofs.Ran.{Ready, Able, able, able-on, source-of, move-ran, delete-ran}
 use Rattle.powercut.proofs.Survive.{N, us, all-copied, as-copied, cut-before, cut-between, units-are, copy-is, original-whole, move-traced, ready}
-
--- ---- a traced run under a fuse
-
-module _ {A : Type 0} (o : Op A) (vs : List FlashUnit) (x : A) (m : List ℕ) (e : o m ≡ ran vs x) where
-  -- the image at each cut
-  pub state-cut : (k : ℕ) → run (Units k) o m .state ≡ apply (take k vs) m
-  unfolding run
-  state-cut k = ap (λ (r : Run flash A). cut {W = flash} (Units k) r m .state) e ∙ go (leb-is (length vs) k)
-    where
-      go : (length vs ≤ k) ⊎ (k < length vs) → cut {W = flash} (Units k) (ran vs x) m .state ≡ apply (take k vs) m
-      go (inl c) = let d : cost flash vs ≤ k = omega (arith, cost-flash vs) in rw (leb-yes d) (ap (λ (u : List FlashUnit). apply u m) (sym (take-all k vs c)))
-      go (inr c) = let d : k < cost flash vs = omega (arith, cost-flash vs) in rw (leb-no d) (ap (λ (u : List FlashUnit). apply u m) (prefix-flash k vs))
-
-  pub power-cut : run Absent o m ≡ record { answer = done x; fuse = Absent; state = apply vs m }
-  unfolding run
-  power-cut = ap (λ (r : Run flash A). cut {W = flash} Absent r m) e
-
-  -- on another image with the same units the same answer and fuse
-  same-cut : (left : List ℕ) → o left ≡ ran vs x → (k : ℕ)
-      → run (Units k) o left ≡ record { answer = run (Units k) o m .answer; fuse = run (Units k) o m .fuse; state = run (Units k) o left .state }
-  unfolding run
-  same-cut left f k =
-      ap (λ (r : Run flash A). record { answer = cut {W = flash} (Units k) r left .answer; fuse = cut {W = flash} (Units k) r left .fuse; state = cut {W = flash} (Units k) (o left) left .state }) f
-      ∙ go (leb (cost flash vs) k)
-      ∙ ap (λ (r : Run flash A). record { answer = cut {W = flash} (Units k) r m .answer; fuse = cut {W = flash} (Units k) r m .fuse; state = cut {W = flash} (Units k) (o left) left .state }) (sym e)
-    where
-      go : (b : Bool) → _≡_ {A = End A} (record { answer = cutBy {W = flash} b k (ran vs x) left .answer; fuse = cutBy {W = flash} b k (ran vs x) left .fuse; state = cut {W = flash} (Units k) (o left) left .state })
-          (record { answer = cutBy {W = flash} b k (ran vs x) m .answer; fuse = cutBy {W = flash} b k (ran vs x) m .fuse; state = cut {W = flash} (Units k) (o left) left .state })
-      go true = refl
-      go false = refl
 
 -- ---- an unfinished object of the same type can be allocated over; a finished one cannot
 

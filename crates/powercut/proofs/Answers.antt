@@ -22,7 +22,8 @@ use Rattle.medium.proofs.Runs.{prefix-flash, cost-flash, leb-is, leb-yes, leb-n
 use Rattle.medium.proofs.Bytes.{length-apply}
 use Rattle.powercut.specs.Stores.{before, markUnits}
 use Rattle.powercut.proofs.Crash.{copy-before, copy-between, framed-copied, original-cut}
-use Rattle.powercut.proofs.Ran.{Ready, able, ran, copy-ran}
+use Rattle.medium.proofs.Traced.{ran}
+use Rattle.powercut.proofs.Ran.{Ready, able, copy-ran}
 use Rattle.powercut.proofs.Survive.{all-copied, length-before, length-copied, N, copy-is, original-whole, copy-whole, copy-unfinished, span-is, units-are, ready, demand}
 
 pub never-gone : NeverGone

@@ -1,5 +1,5 @@
 -- The stores of a move, cut after any number of units: what stands at the two places in each phase.
-use mathlib.Core.Path.{_≡_, refl, sym, ap, ap₂, _∙_, subst}
+use mathlib.Core.Path.{_≡_, refl, sym, ap, _∙_, subst}
 use mathlib.Core.Logic.{_⊎_, inl, inr, _≢_}
 use mathlib.Core.List.{List, [], _∷_, _++_, append-assoc, append-nil}
 use Prim.Native.Nat.{ℕ, zero, suc, _+_, _-_, _*_, _≤_, _<_}
@@ -11,7 +11,7 @@ use lib.Bits.{bitAnd, and-zero-r}
 use Rattle.medium.specs.declared.granularity.Granularity.{Granularity}
 use Rattle.medium.specs.declared.granularity.Granularity.the-variants.{Bit, Word1, Word4}
 use Rattle.medium.specs.Granularity.{widthOf, unitsIn, finishAt, deleteAt, finishMark, sizeAt, header}
-use Rattle.medium.specs.Units.{FlashUnit, programmed, program, padded, unitsOf}
+use Rattle.medium.specs.Units.{FlashUnit, unitsOf}
 use Rattle.medium.specs.Operation.{apply, done}
 use Rattle.objects.specs.declared.types.ObjectType.{ObjectType}
 use Rattle.objects.specs.declared.state.ObjectDataState.the-variants.{Untrusted, Valid, Deleted}
@@ -21,7 +21,8 @@ use Rattle.objects.specs.Types.{typeByte}
 use Rattle.powercut.specs.Demand.{Clear}
 use Rattle.powercut.specs.Stores.{typeUnits, payUnits, sizeUnits, markUnits, deleteUnits, before}
 use Rattle.medium.proofs.Runs.{apply-append, leb-is}
-use Rattle.medium.proofs.Bytes.{and-ff, ff-and, program-off, program-at, Misses, All, All-append, All-take, frame, store-miss, store-whole, length-apply, stored, getD-pad, part-is, getD-part, length-padded}
+use Rattle.medium.proofs.Bytes.{ff-and, Off, Misses, All, All-append, All-take, frame, store-miss, length-apply, length-units, stored, part-is, getD-part}
+use Rattle.medium.proofs.Programs.{pad-kept}
 use Rattle.medium.proofs.Frame.{part-same}
 use Rattle.medium.proofs.Places.{Laid, laid}
 use Rattle.objects.proofs.Numbers.{length-bytes}
@@ -85,11 +86,11 @@ swap : {A B : Type 0} → A ⊎ B → B ⊎ A
 swap (inl a) = inr a
 swap (inr b) = inl b
 
--- the one unit of a one-byte store
-one-unit : (g : Granularity) (a b : ℕ) → unitsOf (widthOf g) a (b ∷ []) ≡ programmed a (padded (widthOf g) (b ∷ [])) ∷ []
-one-unit Bit a b = refl
-one-unit Word1 a b = refl
-one-unit Word4 a b = refl
+-- a store of one byte is one unit
+one-in : (g : Granularity) → unitsIn (widthOf g) 1 ≡ 1
+one-in Bit = omega arith
+one-in Word1 = omega arith
+one-in Word4 = omega arith
 
 mark-byte : (g : Granularity) → finishMark g < 256
 mark-byte Bit = omega arith
@@ -97,7 +98,7 @@ mark-byte Word1 = omega arith
 mark-byte Word4 = omega arith
 
 pub one-long : (g : Granularity) (a b : ℕ) → length (unitsOf (widthOf g) a (b ∷ [])) ≡ 1
-one-long g a b = ap length (one-unit g a b)
+one-long g a b = length-units (widthOf g) a (b ∷ []) ∙ one-in g
 
 module _ (g : Granularity) (s : ℕ) (t : ObjectType) (p q size : ℕ) (pay img : List ℕ) (v : Given g s t p q size pay img) where
   l : Laid g s (length pay)
@@ -373,23 +374,12 @@ module _ (g : Granularity) (s : ℕ) (t : ObjectType) (p q size : ℕ) (pay img 
 
   delete-off : (j : ℕ) (m : List ℕ) → length m ≡ length img → getD m j 0 < 256 → j ≢ p + deleteAt g → getD (apply (deleteUnits g p) m) j 0 ≡ getD m j 0
   delete-off j m e hb ne =
-      ap (λ (i : List ℕ). getD i j 0) (store-whole (widthOf g) (l .pos) (p + deleteAt g) (0 ∷ []) m)
-      ∙ go (leb-is (p + deleteAt g) j) (leb-is (p + deleteAt g + widthOf g) j)
+      pad-kept (widthOf g) (l .pos) (p + deleteAt g) (0 ∷ []) m j (aside (leb-is (p + deleteAt g) j) (leb-is (p + deleteAt g + 1) j)) (omega (arith, l, e, v .original-fits)) hb
     where
-      n : length (padded (widthOf g) (0 ∷ [])) ≡ widthOf g
-      n = length-padded (widthOf g) (l .pos) (0 ∷ []) ∙ l .one
-
-      go : (p + deleteAt g ≤ j) ⊎ (j < p + deleteAt g) → (p + deleteAt g + widthOf g ≤ j) ⊎ (j < p + deleteAt g + widthOf g)
-          → getD (program (p + deleteAt g) (padded (widthOf g) (0 ∷ [])) m) j 0 ≡ getD m j 0
-      go (inr a) b = program-off (p + deleteAt g) (padded (widthOf g) (0 ∷ [])) m j 0 (inl a)
-      go (inl a) (inl b) = program-off (p + deleteAt g) (padded (widthOf g) (0 ∷ [])) m j 0 (inr (omega (arith, n)))
-      go (inl a) (inr b) =
-          let i : ℕ = j - (p + deleteAt g) in
-          let ij : j ≡ p + deleteAt g + i = omega arith in
-          ap (λ (x : ℕ). getD (program (p + deleteAt g) (padded (widthOf g) (0 ∷ [])) m) x 0) ij
-          ∙ program-at (p + deleteAt g) (padded (widthOf g) (0 ∷ [])) m i 0 (omega (arith, n)) (omega (arith, l, e, v .original-fits))
-          ∙ ap₂ bitAnd (ap (λ (x : ℕ). getD m x 0) (sym ij)) (getD-pad (widthOf g) (l .pos) (0 ∷ []) i 0 (omega arith) (omega (arith, l)))
-          ∙ and-ff (getD m j 0) hb
+      aside : (p + deleteAt g ≤ j) ⊎ (j < p + deleteAt g) → (p + deleteAt g + 1 ≤ j) ⊎ (j < p + deleteAt g + 1) → Off (p + deleteAt g) 1 j
+      aside (inr c) d = inl c
+      aside (inl c) (inl d) = inr d
+      aside (inl c) (inr d) = absurd (ne (omega arith))
 
   pub framed-copied : (k j : ℕ) → Clear q (q + span g s (length pay)) j → getD (apply (take k copied) img) j 0 ≡ getD img j 0
   framed-copied k j c = frame j 0 (take k copied) img (All-take (Misses j) k copied (copied-clear j c))

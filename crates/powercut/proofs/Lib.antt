@@ -3,7 +3,6 @@ pub mod Whole
 pub mod Crash
 pub mod Ran
 pub mod Survive
-pub mod Twice
 pub mod Answers
 pub mod Again
 pub mod Counting

@@ -15,7 +15,7 @@ use Rattle.medium.specs.declared.fuse.Fuse.the-variants.{Absent, Units}
 use Rattle.medium.specs.Granularity.{pick, deleteAt, sizeAt, header, blockHeader}
 use Rattle.medium.specs.Geometry.{checkOf, address}
 use Rattle.medium.specs.Units.{FlashUnit}
-use Rattle.medium.specs.Operation.{flash, apply, cost, done, Run, cut, run}
+use Rattle.medium.specs.Operation.{apply, done, run}
 use Rattle.medium.specs.Medium.{part}
 use Rattle.objects.specs.declared.types.ObjectType.{ObjectType}
 use Rattle.objects.specs.declared.state.ObjectDataState.the-variants.{Untrusted, Deleted}
@@ -30,19 +30,21 @@ use Rattle.objects.specs.Listing.{placed, nextIn, nextOf, Visit, listBy, listFr
 use Rattle.writer.specs.Moving.{moveObject}
 use Rattle.powercut.specs.Demand.{Whole, Unfinished, Gone, addressOf, payloadIn, copyOf, Clear, Movable, unitsTo, Framed, Survives, Moved, Demand}
 use Rattle.powercut.specs.Listed.{same, payloadRead, isCopy, countIn, copiesIn, copies, Listable, copiesAfter, copiesBefore, Counted, Listings}
-use Rattle.medium.proofs.Runs.{prefix-flash, cost-flash, leb-is, leb-yes, leb-no}
+use Rattle.medium.proofs.Runs.{leb-is}
 use Rattle.medium.proofs.Bytes.{getD-part}
 use Rattle.medium.proofs.Places.{Laid, laid}
 use Rattle.medium.proofs.Checks.{within}
 use Rattle.shown.proofs.Reading.{seen-free, header-read}
 use Rattle.powercut.specs.Stores.{before}
-use Rattle.powercut.proofs.Ran.{Ready, ran}
+use Rattle.medium.proofs.Traced.{state-cut}
+use Rattle.powercut.proofs.Ran.{Ready}
 use Rattle.powercut.proofs.Survive.{us, units-are, cut-before, move-traced, copy-size, span-is, fine-is, told, long, apart-plain, ready, demand}
 use Rattle.shown.proofs.Walk.{place, visit, spanAt, next-in, next-end, next-object, span-least, Walked, walk-le, unwalk, Reached, reached, ended, walk-same}
 use Rattle.shown.proofs.Agreeing.{Agree, agree-of}
 use Rattle.powercut.proofs.Counting.{walk-count, list-count}
 use Rattle.shown.proofs.Steps.{free-fits}
-use Rattle.powercut.proofs.Phantom.{Partly, payload-partly, none-behind}
+use Rattle.medium.proofs.Programs.{Partly}
+use Rattle.powercut.proofs.Phantom.{payload-partly, none-behind}
 
 count-append : (g : Geometry) (b : ℕ) (t : ObjectType) (pay m : List ℕ) (xs ys : List Visit) → countIn g b t pay m (xs ++ ys) ≡ countIn g b t pay m xs + countIn g b t pay m ys
 count-append g b t pay m [] ys = sym (zero-add (countIn g b t pay m ys))
@@ -264,17 +266,8 @@ module _ (g : Geometry) (h : ObjectHeader) (to : ObjectLocation) (room : ℕ) (t
   abbrev r : Ready g h to t (payloadIn g h img) img
   r = ready g h to room t img v
 
-  state-cut : (k : ℕ) → run (Units k) (moveObject g h to) img .state ≡ apply (take k (us g h to t pay img r)) img
-  unfolding run
-  state-cut k = ap (λ (x : Run flash ObjectHeader). cut {W = flash} (Units k) x img .state) (move-traced g h to t pay img r) ∙ go (leb-is (length (us g h to t pay img r)) k)
-    where
-      go : (length (us g h to t pay img r) ≤ k) ⊎ (k < length (us g h to t pay img r)) → cut {W = flash} (Units k) (ran (us g h to t pay img r) (copyOf g h to)) img .state ≡ apply (take k (us g h to t pay img r)) img
-      go (inl c) =
-          let d : cost flash (us g h to t pay img r) ≤ k = omega (arith, cost-flash (us g h to t pay img r)) in
-          rw (leb-yes d) (ap (λ (u : List FlashUnit). apply u img) (sym (take-all k (us g h to t pay img r) c)))
-      go (inr c) =
-          let d : k < cost flash (us g h to t pay img r) = omega (arith, cost-flash (us g h to t pay img r)) in
-          rw (leb-no d) (ap (λ (u : List FlashUnit). apply u img) (prefix-flash k (us g h to t pay img r)))
+  left-at : (k : ℕ) → run (Units k) (moveObject g h to) img .state ≡ apply (take k (us g h to t pay img r)) img
+  left-at k = state-cut (moveObject g h to) (us g h to t pay img r) (copyOf g h to) img (move-traced g h to t pay img r) k
 
   small : length pay ≤ 65536
   small = omega (arith, long g h to room t img v, near, whole-in, fine-is g h to room t img v .sound .small)
@@ -392,7 +385,7 @@ module _ (g : Geometry) (h : ObjectHeader) (to : ObjectLocation) (room : ℕ) (t
   before-is k c =
       let d : Survives g h to t pay img k (run (Units k) (moveObject g h to) img) = survives k in
       let last : List ℕ = run (Units k) (moveObject g h to) img .state in
-      total last 1 0 (whole-left last 0 (d .framed) (d .before-mark c .0) (begun-tail k last c (state-cut k) (d .framed .long) (d .before-mark c .1)))
+      total last 1 0 (whole-left last 0 (d .framed) (d .before-mark c .0) (begun-tail k last c (left-at k) (d .framed .long) (d .before-mark c .1)))
 
   between-is : copiesAfter g h to t img (Units (unitsTo g h + 1)) ≡ others + 2
   between-is =
@@ -416,7 +409,7 @@ module _ (g : Geometry) (h : ObjectHeader) (to : ObjectLocation) (room : ℕ) (t
 
   -- no unit at all is the image as it was
   img-is : copiesBefore g h to t img ≡ others + 1
-  img-is = ap (λ (m : List ℕ). copies g src dst t pay m) (sym (state-cut 0)) ∙ before-is 0 (omega arith)
+  img-is = ap (λ (m : List ℕ). copies g src dst t pay m) (sym (left-at 0)) ∙ before-is 0 (omega arith)
 
   counted : Counted g h to t img
   counted =

@@ -1,22 +1,21 @@
 -- An unfinished copy is stepped over by its header alone, so that a listing reads its payload as headers. Nothing that it finds there is a
 -- finished object of the copy's own payload: such a payload would be all FF, and so would be the byte of its type.
 use mathlib.Core.Path.{_≡_, refl, sym, ap, ap₂, _∙_, subst}
-use mathlib.Core.Logic.{_⊎_, inl, inr}
+use mathlib.Core.Logic.{inl, inr}
 use mathlib.Core.Bool.{Bool, true, false, _&&_, and-false}
 use mathlib.Core.List.{List, [], _∷_, _++_}
 use Prim.Native.Nat.{ℕ, zero, suc, _+_, _-_, _*_, _≤_, _<_, min}
-use native.Mathlib.Nat.{sub-zero, zero-sub, mul-le-mul-right}
+use native.Mathlib.Nat.{sub-zero, zero-sub}
 use native.Mathlib.Omega.{arith}
 use lib.ListN.{length, take, getD}
-use lib.Seq.{take-all, take-nil, length-take-le, getD-take}
+use lib.Seq.{take-nil}
 use lib.Dec.{eqb}
-use lib.Bits.{bitAnd}
 use borrow.Author.Tests.{le-leb, eqb-true}
 use Rattle.medium.specs.declared.granularity.Granularity.{Granularity}
 use Rattle.medium.specs.declared.geometry.Geometry.{Geometry}
-use Rattle.medium.specs.Granularity.{pick, widthOf, unitsIn, sizeAt, header}
+use Rattle.medium.specs.Granularity.{pick, widthOf, sizeAt, header}
 use Rattle.medium.specs.Geometry.{checkOf, address}
-use Rattle.medium.specs.Units.{FlashUnit, padded, unitsOf, program}
+use Rattle.medium.specs.Units.{FlashUnit}
 use Rattle.medium.specs.Operation.{apply, Answer, done, refused, andThen}
 use Rattle.medium.specs.Medium.{readAt}
 use Rattle.objects.specs.declared.types.ObjectType.{ObjectType}
@@ -35,8 +34,9 @@ use Rattle.objects.specs.Reader.{Chunk, readerAt, remainingOf, leftOf, readSome
 use Rattle.objects.specs.Listing.{placed, nextOf, listBy, listFrom}
 use Rattle.powercut.specs.Demand.{readerOf}
 use Rattle.powercut.specs.Listed.{same, payloadRead, isPayload, isCopy, countIn}
-use Rattle.medium.proofs.Runs.{apply-append, leb-is}
-use Rattle.medium.proofs.Bytes.{ff-and, program-off, program-at, Misses, All-take, frame, length-apply, length-padded, getD-padded, getD-pad, words-cut, getD-part, length-part, length-units}
+use Rattle.medium.proofs.Runs.{apply-append}
+use Rattle.medium.proofs.Bytes.{Misses, All-take, frame, length-apply, getD-part, length-part}
+use Rattle.medium.proofs.Programs.{Partly, partly}
 use Rattle.medium.proofs.Places.{Laid, laid}
 use Rattle.medium.proofs.Checks.{within, fine-of-check}
 use Rattle.shown.proofs.Reading.{seen-free, Got, read-back, header-back, header-read, headerOf}
@@ -50,40 +50,6 @@ pub take-both : {A : Type 0} (k : ℕ) (xs ys : List A) → take k (xs ++ ys) �
 take-both k [] ys = ap₂ (λ n zs. zs ++ take n ys) (sym (sub-zero k)) (sym (take-nil k))
 take-both zero (x ∷ xs) ys = ap (λ n. take n ys) (sym (zero-sub (suc (length xs))))
 take-both (suc k) (x ∷ xs) ys = let n : k - length xs ≡ suc k - suc (length xs) = omega arith in ap (λ l. x ∷ l) (take-both k xs ys ∙ ap (λ (i : ℕ). take k xs ++ take i ys) n)
-
--- FF, or the byte that is stored there
-abbrev pub Partly : List ℕ → ℕ → ℕ → Type 0
-Partly bs i x = (x ≡ 255) ⊎ ((i < length bs) × (x ≡ getD bs i 0))
-
-module _ (w : ℕ) (hw : 0 < w) (a : ℕ) (bs img : List ℕ) (i : ℕ) (hl : a + i < length img) (blank : getD img (a + i) 0 ≡ 255) (small : i < length bs → getD bs i 0 < 256) where
-  stored-byte : (k : ℕ) → k ≤ unitsIn w (length bs) → Partly bs i (getD (program a (take (k * w) (padded w bs)) img) (a + i) 0)
-  stored-byte k h = go (leb-is (k * w) i) (leb-is (length bs) i)
-    where
-      long : length (take (k * w) (padded w bs)) ≡ k * w
-      long = length-take-le (k * w) (padded w bs) (omega (arith, length-padded w hw bs, mul-le-mul-right w h))
-
-      at : i < k * w → getD (program a (take (k * w) (padded w bs)) img) (a + i) 0 ≡ bitAnd 255 (getD (padded w bs) i 0)
-      at c =
-          program-at a (take (k * w) (padded w bs)) img i 0 (omega (arith, long)) hl
-          ∙ ap₂ bitAnd blank (getD-take (k * w) (padded w bs) i 0 c)
-
-      go : (k * w ≤ i) ⊎ (i < k * w) → (length bs ≤ i) ⊎ (i < length bs) → Partly bs i (getD (program a (take (k * w) (padded w bs)) img) (a + i) 0)
-      go (inl c) d = inl (program-off a (take (k * w) (padded w bs)) img (a + i) 0 (inr (omega (arith, long))) ∙ blank)
-      go (inr c) (inl d) = inl (at c ∙ ap (bitAnd 255) (getD-pad w hw bs i 0 d (omega (arith, mul-le-mul-right w h))))
-      go (inr c) (inr d) = inr (d, at c ∙ ap (bitAnd 255) (getD-padded w hw bs i 0 d) ∙ ff-and (getD bs i 0) (small d))
-
-  pub partly : (k : ℕ) → Partly bs i (getD (apply (take k (unitsOf w a bs)) img) (a + i) 0)
-  partly k = go (leb-is k (unitsIn w (length bs)))
-    where
-      cut : (n : ℕ) → n ≤ unitsIn w (length bs) → Partly bs i (getD (apply (take n (unitsOf w a bs)) img) (a + i) 0)
-      cut n h = subst (λ (m : List ℕ). Partly bs i (getD m (a + i) 0)) (sym (words-cut n (unitsIn w (length bs)) w a (padded w bs) img h (length-padded w hw bs))) (stored-byte n h)
-
-      go : (k ≤ unitsIn w (length bs)) ⊎ (unitsIn w (length bs) < k) → Partly bs i (getD (apply (take k (unitsOf w a bs)) img) (a + i) 0)
-      go (inl h) = cut k h
-      go (inr h) =
-          let n : length (unitsOf w a bs) ≡ unitsIn w (length bs) = length-units w a bs in
-          subst (λ (us : List FlashUnit). Partly bs i (getD (apply us img) (a + i) 0))
-          (take-all (unitsIn w (length bs)) (unitsOf w a bs) (omega arith) ∙ sym (take-all k (unitsOf w a bs) (omega arith))) (cut (unitsIn w (length bs)) (omega arith))
 
 module _ (g : Granularity) (s : ℕ) (t : ObjectType) (p q size : ℕ) (pay img : List ℕ) (v : Given g s t p q size pay img) where
   -- each byte behind the copy's header, before its finish mark

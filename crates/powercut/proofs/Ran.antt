@@ -15,8 +15,8 @@ use Rattle.medium.specs.declared.geometry.Geometry.{Geometry}
 use Rattle.medium.specs.Granularity.{pick, widthOf, unitsIn, alignOf, finishAt, deleteAt, finishMark, sizeAt, header}
 use Rattle.medium.specs.Geometry.{checkOf, address}
 use Rattle.medium.specs.Units.{FlashUnit, unitsOf}
-use Rattle.medium.specs.Operation.{flash, apply, Answer, done, andThen, orRefuse, Run, Op, follow, _>>=_, _>>_, ask, give, test, putting}
-use Rattle.medium.specs.Medium.{part, writable, readAt, write}
+use Rattle.medium.specs.Operation.{flash, apply, Answer, done, andThen, _>>=_, _>>_, ask, give, test}
+use Rattle.medium.specs.Medium.{part, readAt, write}
 use Rattle.objects.specs.declared.types.ObjectType.{ObjectType}
 use Rattle.objects.specs.declared.state.ObjectDataState.the-variants.{Untrusted, Valid, Deleted}
 use Rattle.objects.specs.declared.state.CompositeObjectState.{CompositeObjectState}
@@ -35,6 +35,8 @@ use Rattle.medium.proofs.Runs.{leb-is}
 use Rattle.medium.proofs.Bytes.{length-part, frame, length-apply}
 use Rattle.medium.proofs.Frame.{part-same}
 use Rattle.objects.proofs.Numbers.{length-bytes}
+use Rattle.medium.proofs.Traced.{ran, bind-ran, ask-ran, store-ran, tested, asked}
+use Rattle.medium.proofs.Writes.{write-ran}
 use Rattle.medium.proofs.Split.{units-split, none-stored, part-add}
 use Rattle.medium.proofs.Places.{width-is, Laid, laid, even-add}
 use Rattle.medium.proofs.Checks.{Fine, admit-pass, within, fine-of-check}
@@ -42,43 +44,6 @@ use Rattle.powercut.proofs.Places.{span, tail-room, Floored, floored, f
 use Rattle.shown.proofs.Reading.{stateSeen, read-yes, state-read, headerOf}
 use Rattle.powercut.specs.Stores.{typeUnits, payUnits, sizeUnits, markUnits, deleteUnits, moveUnits}
 use Rattle.powercut.proofs.Crash.{Given, copy-free, inside}
-
--- ---- steps that are done
-
-abbrev pub ran : {A : Type 0} → List FlashUnit → A → Run flash A
-ran us x = record { events = us; answer = done x }
-
-bind-ran : {A B : Type 0} (o : Op A) (p : A → Op B) (img : List ℕ) (us vs : List FlashUnit) (x : A) (y : B)
-    → o img ≡ ran us x → p x (apply us img) ≡ ran vs y → (o >>= p) img ≡ ran (us ++ vs) y
-unfolding _>>=_
-bind-ran {A} {B} o p img us vs x y e f =
-    ap (λ (r : Run flash A). follow {W = flash} (r .events) (r .answer) p img) e
-    ∙ ap (λ (r : Run flash B). record { events = us ++ r .events; answer = r .answer }) f
-
-ask-ran : {A : Type 0} (q : List ℕ → Answer A) (m : List ℕ) (x : A) → q m ≡ done x → ask {W = flash} q m ≡ ran [] x
-unfolding ask
-ask-ran q m x e = rw e
-
-test-ran : (q : List ℕ → ℕ) (m : List ℕ) → q m ≡ 0 → test {W = flash} q m ≡ ran [] tt
-unfolding test
-test-ran q m e = ask-ran (λ i. orRefuse (q i)) m tt (rw e)
-
--- a step that stores and then gives a value
-store-ran : {A : Type 0} (o : Op (Unit {0})) (m : List ℕ) (us : List FlashUnit) (x : A) → o m ≡ ran us tt → (o >> give x) m ≡ ran us x
-store-ran o m us x e = bind-ran o (λ _. give x) m us [] tt x e (ask-ran (λ _. done x) (apply us m) x refl) ∙ ap (λ (l : List FlashUnit). ran l x) (append-nil us)
-
--- a test, and then the rest
-tested : {A : Type 0} (q : List ℕ → ℕ) (p : Op A) (m : List ℕ) (us : List FlashUnit) (x : A) → q m ≡ 0 → p m ≡ ran us x → (test q >> p) m ≡ ran us x
-tested q p m us x e f = bind-ran (test q) (λ _. p) m [] us tt x (test-ran q m e) f
-
-asked : {A B : Type 0} (q : List ℕ → Answer A) (p : A → Op B) (m : List ℕ) (us : List FlashUnit) (x : A) (y : B) → q m ≡ done x → p x m ≡ ran us y → (ask q >>= p) m ≡ ran us y
-asked q p m us x y e f = bind-ran (ask q) p m [] us x y (ask-ran q m x e) f
-
-write-ran : (g : Geometry) (b off : ℕ) (bs m : List ℕ) → checkOf g (length m) ≡ 0 → b < g .count → off % widthOf (g .granularity) ≡ 0
-    → off + alignOf (widthOf (g .granularity)) (length bs) ≤ g .size → write g b off bs m ≡ ran (unitsOf (widthOf (g .granularity)) (address g b off) bs) tt
-unfolding write writable putting
-write-ran g b off bs m f h k r =
-    rw (admit-pass g (length m) (pick (ltb b (g .count) && eqb (off % widthOf (g .granularity)) 0 && leb (off + alignOf (widthOf (g .granularity)) (length bs)) (g .size)) 0 3) (checkOf g (length m)) refl f, lt-ltb b (g .count) h, eq-eqb (off % widthOf (g .granularity)) 0 k, le-leb (off + alignOf (widthOf (g .granularity)) (length bs)) (g .size) r)
 
 -- what is held comes back as it was put away
 tail-held : (tl : List ℕ) → length tl ≤ 4 → take (length tl) (tailOf tl) ≡ tl

@@ -38,7 +38,7 @@ use Rattle.medium.proofs.Runs.{apply-append, leb-is}
 use Rattle.medium.proofs.Bytes.{ff-and, Misses, All-take, frame, length-apply, getD-part, length-part, length-units, part-is, fits-up}
 use Rattle.medium.proofs.Places.{Laid, laid, width-is, align-even, align-least, even-align}
 use Rattle.powercut.proofs.Places.{span}
-use Rattle.powercut.proofs.Twice.{cut-stored}
+use Rattle.medium.proofs.Programs.{cut-stored, Partly, partly}
 use Rattle.shown.proofs.Reading.{stateSeen, sizeSeen, byte-bytes, unset-is, size-says, state-read, headerOf, header-read, header-back}
 use Rattle.shown.proofs.Agreeing.{agree-of}
 use Rattle.objects.proofs.Numbers.{length-bytes}
@@ -48,7 +48,7 @@ use Rattle.powercut.proofs.Survive.{N, us, all-copied, cut-before, cut-
 use Rattle.powercut.proofs.Again.{left-is}
 use Rattle.shown.proofs.Walk.{place, spanAt, span-least, info-back, Walked, walk-le, ended, walk-same}
 use Rattle.shown.proofs.Steps.{at-end, at-object, at-free, at-broken, free-fits, stop-behind}
-use Rattle.powercut.proofs.Phantom.{take-both, Partly, partly}
+use Rattle.powercut.proofs.Phantom.{take-both}
 use Rattle.powercut.proofs.Listed.{free-info}
 
 -- ---- numbers of bytes

@@ -37,7 +37,8 @@ use Rattle.powercut.proofs.Whole.{whole-of, unfinished-of, gone-of}
 use Rattle.powercut.specs.Stores.{typeUnits, payUnits, sizeUnits, markUnits, deleteUnits, before, moveUnits, Ordered}
 use Rattle.powercut.specs.Call.{Survived}
 use Rattle.powercut.proofs.Crash.{one-long, copied, everything, original-before, copy-before, original-between, copy-between, original-after, size-after, copy-after, framed-copied, framed-moved}
-use Rattle.powercut.proofs.Ran.{Ready, able, ran, move-ran}
+use Rattle.medium.proofs.Traced.{ran}
+use Rattle.powercut.proofs.Ran.{Ready, able, move-ran}
 
 module _ (g : Geometry) (h : ObjectHeader) (to : ObjectLocation) (t : ObjectType) (pay img : List ℕ) (r : Ready g h to t pay img) where
   abbrev gr : Granularity

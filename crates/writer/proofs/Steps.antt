@@ -1,95 +1,24 @@
 -- A write's two stores, the tail's word and then the other words, are the one store of them all: unit for unit, refusals included.
-use mathlib.Core.Path.{_≡_, refl, sym, ap, ap₂, _∙_}
-use mathlib.Core.Bool.{Bool, true, false, _&&_, and-true}
+use mathlib.Core.Path.{_≡_, sym, ap, ap₂, _∙_}
 use mathlib.Core.List.{List, [], _++_, append-assoc}
-use Prim.Native.Nat.{ℕ, _+_, _-_, _*_, _/_, _%_, _≤_, _<_}
-use native.Mathlib.Nat.{mod-lt, div-add-mod', mod-le, mod-self, add-mod-left, one-mul, add-assoc, add-mul, add-mul-mod-self-right}
+use Prim.Native.Nat.{ℕ, _+_, _-_, _*_, _/_, _≤_, _<_}
+use native.Mathlib.Nat.{mod-lt, div-add-mod', mod-le, mod-self, add-mod-left, one-mul}
 use native.Mathlib.Omega.{arith}
 use lib.ListN.{length, take, drop, length-append, length-drop, take-append-drop}
 use lib.Seq.{take-length, take-append-add, drop-append-add, drop-length, length-take-le}
-use lib.Dec.{ltb, eqb}
-use borrow.Author.Tests.{le-leb}
 use Rattle.medium.specs.declared.geometry.Geometry.{Geometry}
 use Rattle.medium.specs.declared.fuse.Fuse.{Fuse}
-use Rattle.medium.specs.Granularity.{pick, unitsIn, alignOf}
-use Rattle.medium.specs.Geometry.{admit, address}
-use Rattle.medium.specs.Units.{FlashUnit, unitsOf}
-use Rattle.medium.specs.Operation.{flash, apply, Run, Op, _>>=_, ask, give, refuse, putting, cut, run}
-use Rattle.medium.specs.Medium.{writable, write}
-use Rattle.medium.proofs.Bytes.{length-apply}
+use Rattle.medium.specs.Granularity.{alignOf}
+use Rattle.medium.specs.Operation.{flash, Run, _>>=_, give, cut, run}
+use Rattle.medium.specs.Medium.{write}
 use Rattle.medium.proofs.Places.{width-is}
-use Rattle.medium.proofs.Split.{units-split, units-even, units-more}
+use Rattle.medium.proofs.Split.{units-even}
+use Rattle.medium.proofs.Writes.{write-split}
 use Rattle.writer.specs.declared.writer.ObjectWriter.{ObjectWriter}
 use Rattle.writer.specs.Writer.{dataAt, wholeOf, tailOf, heldBack, putBytes, pendingOf}
 use Rattle.writer.specs.Steps.{storeWords}
 use Rattle.writer.proofs.Laws.{width}
 use Rattle.writer.proofs.Sequence.{bind-same, bind-assoc, bind-first, give-bind}
-
--- ---- one store in two
-
--- the tests of a store that ends within the block
-abbrev placed : Geometry → ℕ → ℕ → ℕ → ℕ
-placed g room b o = admit g room (pick (ltb b (g .count) && eqb (o % width g) 0) 0 3)
-
-placed-is : (g : Geometry) (room b o n : ℕ) → o + alignOf (width g) n ≤ g .size → writable g room b o n ≡ placed g room b o
-unfolding writable
-placed-is g room b o n h = rw (le-leb _ _ h, and-true)
-
--- a store that its tests let pass with 0, or refuse with another number
-write-is : (g : Geometry) (b o r : ℕ) (bs img : List ℕ) (t : Bool) → writable g (length img) b o (length bs) ≡ r → eqb r 0 ≡ t
-    → write g b o bs img ≡ pick {A = Op (Unit {0})} t (putting (unitsOf (width g) (address g b o) bs) tt) (refuse r) img
-unfolding write
-write-is g b o r bs img true e q = rw (e, q)
-write-is g b o r bs img false e q = rw (e, q)
-
-write-split : (g : Geometry) (b o m : ℕ) (xs ys img : List ℕ) → length xs ≡ m * width g
-    → o + (length xs + alignOf (width g) (length ys)) ≤ g .size
-    → write g b o (xs ++ ys) img ≡ (write g b o xs >>= λ _. write g b (o + m * width g) ys) img
-unfolding _>>=_ ask putting
-write-split g b o m xs ys img e h = go (eqb (placed g (length img) b o) 0) refl
-  where
-    hk : 0 < width g
-    hk = width-is (g .granularity) .0
-
-    whole : alignOf (width g) (length (xs ++ ys)) ≡ length xs + alignOf (width g) (length ys)
-    whole =
-        ap (alignOf (width g)) (length-append xs ys ∙ ap (λ (n : ℕ). n + length ys) e)
-        ∙ ap (λ (n : ℕ). n * width g) (units-more (width g) hk m (length ys))
-        ∙ add-mul m (unitsIn (width g) (length ys)) (width g)
-        ∙ ap (λ (n : ℕ). n + alignOf (width g) (length ys)) (sym e)
-
-    first : alignOf (width g) (length xs) ≡ length xs
-    first = ap (alignOf (width g)) e ∙ ap (λ (n : ℕ). n * width g) (units-even (width g) hk m) ∙ sym e
-
-    us : List FlashUnit
-    us = unitsOf (width g) (address g b o) xs
-
-    vs : List FlashUnit
-    vs = unitsOf (width g) (address g b (o + m * width g)) ys
-
-    both : unitsOf (width g) (address g b o) (xs ++ ys) ≡ us ++ vs
-    both =
-        units-split (width g) hk m (address g b o) xs ys e
-        ∙ ap (λ (a : ℕ). unitsOf (width g) (address g b o) xs ++ unitsOf (width g) a ys) (add-assoc (b * g .size) o (m * width g))
-
-    all-placed : writable g (length img) b o (length (xs ++ ys)) ≡ placed g (length img) b o
-    all-placed = placed-is g (length img) b o (length (xs ++ ys)) (rw whole h)
-
-    first-placed : writable g (length img) b o (length xs) ≡ placed g (length img) b o
-    first-placed = placed-is g (length img) b o (length xs) (rw first (omega arith))
-
-    rest-placed : writable g (length (apply us img)) b (o + m * width g) (length ys) ≡ placed g (length img) b o
-    rest-placed =
-        placed-is g (length (apply us img)) b (o + m * width g) (length ys) (omega arith)
-        ∙ rw (length-apply us img, add-mul-mod-self-right o m (width g))
-
-    go : (t : Bool) → eqb (placed g (length img) b o) 0 ≡ t → write g b o (xs ++ ys) img ≡ (write g b o xs >>= λ _. write g b (o + m * width g) ys) img
-    go true q =
-        write-is g b o (placed g (length img) b o) (xs ++ ys) img true all-placed q
-        ∙ rw (write-is g b o (placed g (length img) b o) xs img true first-placed q, write-is g b (o + m * width g) (placed g (length img) b o) ys (apply us img) true rest-placed q, both)
-    go false q =
-        write-is g b o (placed g (length img) b o) (xs ++ ys) img false all-placed q
-        ∙ rw (write-is g b o (placed g (length img) b o) xs img false first-placed q)
 
 -- ---- whole words
 

@@ -11,8 +11,8 @@ use Rattle.medium.specs.declared.geometry.Geometry.{Geometry}
 use Rattle.medium.specs.Granularity.{pick, sizeAt, finishAt, finishMark}
 use Rattle.medium.specs.Geometry.{checkOf, address}
 use Rattle.medium.specs.Units.{FlashUnit}
-use Rattle.medium.specs.Operation.{flash, apply, Answer, done, refused, orRefuse, Run, Op, follow, _>>=_, ask, give, refuse, test, putting}
-use Rattle.medium.specs.Medium.{writable, write}
+use Rattle.medium.specs.Operation.{flash, apply, Answer, done, refused, orRefuse, Run, Op, follow, _>>=_, ask, give, test}
+use Rattle.medium.specs.Medium.{unitsAt, write}
 use Rattle.objects.specs.declared.types.ObjectType.{ObjectType}
 use Rattle.objects.specs.declared.state.ObjectDataState.the-variants.{Untrusted, Valid}
 use Rattle.objects.specs.declared.state.CompositeObjectState.the-variants as comp
@@ -24,9 +24,9 @@ use Rattle.objects.specs.Header.{stateAt, allocatableOf, marking, stepTo, setSt
 use Rattle.medium.proofs.Runs.{bound}
 use Rattle.medium.proofs.Places.{width-is}
 use Rattle.medium.proofs.Split.{none-stored}
+use Rattle.medium.proofs.Writes.{write-stored}
 use Rattle.writer.specs.declared.writer.ObjectWriter.{ObjectWriter}
 use Rattle.writer.specs.Writer.{freshOf, withHeader, emptied, dataAt, appendable, allocate, wholeOf, pendingOf, heldBack, putBytes, append, flush, finishable, close, finalize}
-use Rattle.writer.specs.Units.{unitsAt}
 use Rattle.writer.proofs.Laws.{width}
 
 -- ---- where the operation is done, it stored us and gave a
@@ -75,14 +75,7 @@ unfolding test
 test-then {B} q p img us b h = ask-then (λ i. orRefuse (q i)) (λ _. p) img us b (λ u t. h (none-refused (q img) u t))
 
 pub write-stores : (g : Geometry) (b o : ℕ) (bs img : List ℕ) → Stores (write g b o bs) img (unitsAt g b o bs) tt
-unfolding write putting ask
-write-stores g b o bs img x e = go (eqb (writable g (length img) b o (length bs)) 0) e
-  where
-    go : (t : Bool) → pick {A = Op (Unit {0})} t (putting (unitsAt g b o bs) tt) (refuse (writable g (length img) b o (length bs))) img .answer ≡ done x
-        → pick {A = Op (Unit {0})} t (putting (unitsAt g b o bs) tt) (refuse (writable g (length img) b o (length bs))) img
-        ≡ record { events = unitsAt g b o bs; answer = done tt }
-    go true h = refl
-    go false h = let z : _≡_ {A = ℕ} 0 1 = cc in absurd (omega arith)
+write-stores g b o bs img x e = write-stored g b o bs img x e
 
 -- ---- the writer's operations
 

@@ -13,6 +13,7 @@ use Rattle.medium.specs.Granularity.{widthOf, unitsIn, header, sizeAt, finishAt
 use Rattle.medium.specs.Geometry.{address}
 use Rattle.medium.specs.Units.{FlashUnit, unitsOf}
 use Rattle.medium.specs.Operation.{flash, apply, done, Run, _>>=_, ask, give, test}
+use Rattle.medium.specs.Medium.{unitsAt}
 use Rattle.objects.specs.declared.types.ObjectType.{ObjectType}
 use Rattle.objects.specs.declared.state.ObjectDataState.the-variants.{Valid}
 use Rattle.objects.specs.declared.state.CompositeObjectState.the-variants as comp
@@ -28,7 +29,7 @@ use Rattle.medium.proofs.Places.{width-is}
 use Rattle.medium.proofs.Split.{units-split}
 use Rattle.writer.specs.declared.writer.ObjectWriter.{ObjectWriter}
 use Rattle.writer.specs.Writer.{freshOf, dataAt, noTail, tailOf, appendable, allocate, wholeOf, pendingOf, heldBack, putBytes, append, finalize, writeTo}
-use Rattle.writer.specs.Units.{unitsAt, objectUnits, unitCount, Written}
+use Rattle.writer.specs.Units.{objectUnits, unitCount, Written}
 use Rattle.writer.proofs.Laws.{width, Appends, append-is}
 use Rattle.writer.proofs.Steps.{whole-le, whole-even, rest-few}
 use Rattle.writer.proofs.Stored.{Stores, then, then-give, gave, none-refused, allocate-stores, append-stores, finalize-stores}

@@ -6,18 +6,14 @@ use lib.ListN.{length}
 use Rattle.medium.specs.declared.granularity.Granularity.{Granularity}
 use Rattle.medium.specs.declared.granularity.Granularity.the-variants.{Bit, Word1, Word4}
 use Rattle.medium.specs.declared.geometry.Geometry.{Geometry}
-use Rattle.medium.specs.Granularity.{widthOf, unitsIn, header, sizeAt, finishAt, finishMark}
-use Rattle.medium.specs.Geometry.{address}
-use Rattle.medium.specs.Units.{FlashUnit, unitsOf}
+use Rattle.medium.specs.Granularity.{unitsIn, header, sizeAt, finishAt, finishMark}
+use Rattle.medium.specs.Units.{FlashUnit}
+use Rattle.medium.specs.Medium.{unitsAt}
 use Rattle.objects.specs.declared.types.ObjectType.{ObjectType}
 use Rattle.objects.specs.declared.location.ObjectLocation.{ObjectLocation}
 use Rattle.objects.specs.Numbers.{bytes}
 use Rattle.objects.specs.Types.{typeByte}
 use Rattle.writer.specs.Writer.{writeTo}
-
--- the units of bytes that are stored at a place of a block
-abbrev pub unitsAt : Geometry → ℕ → ℕ → List ℕ → List FlashUnit
-unitsAt g b o bs = unitsOf (widthOf (g .granularity)) (address g b o) bs
 
 -- "type, then payload, then size, then mark"
 abbrev pub objectUnits : Geometry → ObjectLocation → ObjectType → List ℕ → List FlashUnit

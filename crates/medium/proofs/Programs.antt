@@ -1,18 +1,18 @@
 -- Programming is an AND, byte for byte: it may be done in any order, and twice is as good as once. With the width as a parameter.
-use mathlib.Core.Path.{_≡_, refl, sym, ap, ap₂, _∙_}
+use mathlib.Core.Path.{_≡_, refl, sym, ap, ap₂, _∙_, subst}
 use mathlib.Core.Logic.{_⊎_, inl, inr}
 use mathlib.Core.List.{List, [], _∷_, _++_, append-nil}
-use Prim.Native.Nat.{ℕ, zero, suc, _+_, _*_, _/_, _%_, _≤_, _<_, min, max}
+use Prim.Native.Nat.{ℕ, zero, suc, _+_, _-_, _*_, _/_, _%_, _≤_, _<_, min, max}
 use native.Mathlib.Nat.{mul-le-mul-right}
 use native.Mathlib.Omega.{arith}
 use lib.ListN.{length, take, drop, getD, take-append-drop}
 use lib.Seq.{take-take, take-all, length-take-le, getD-take}
 use lib.Bits.{bitAnd, and-step, and-self, and-comm}
 use Rattle.medium.specs.Granularity.{unitsIn}
 use Rattle.medium.specs.Units.{FlashUnit, programmed, erased, over, program, padded, words, unitsOf}
 use Rattle.medium.specs.Operation.{apply}
 use Rattle.medium.proofs.Runs.{apply-append, leb-is}
-use Rattle.medium.proofs.Bytes.{All, All-take, program-at, length-padded, getD-padded, words-cut, length-units, stored}
+use Rattle.medium.proofs.Bytes.{and-ff, ff-and, Off, All, All-take, frame, store-miss, store-whole, program-off, program-at, length-padded, getD-padded, getD-pad, words-cut, length-units, stored}
 
 -- ---- AND
 
@@ -80,13 +80,17 @@ abbrev pub Programs : FlashUnit → Type 0
 Programs (programmed a bs) = Unit {0}
 Programs (erased a n) = ⊥
 
-words-program : (n w a : ℕ) (bs : List ℕ) → All Programs (words n w a bs)
-words-program zero w a bs = tt
-words-program (suc n) w a bs = (tt, words-program n w (a + w) (drop w bs))
+words-each : (P : FlashUnit → Type 0) → ((a : ℕ) (bs : List ℕ) → P (programmed a bs)) → (n w a : ℕ) (bs : List ℕ) → All P (words n w a bs)
+words-each P h zero w a bs = tt
+words-each P h (suc n) w a bs = (h a (take w bs), words-each P h n w (a + w) (drop w bs))
 
--- those of a store
+-- what holds of every unit that programs holds of those of a store
+pub store-each : (P : FlashUnit → Type 0) → ((a : ℕ) (bs : List ℕ) → P (programmed a bs)) → (w a : ℕ) (bs : List ℕ) → All P (unitsOf w a bs)
+store-each P h w a bs = words-each P h (unitsIn w (length bs)) w a (padded w bs)
+
+-- they program only
 pub store-programs : (w a : ℕ) (bs : List ℕ) → All Programs (unitsOf w a bs)
-store-programs w a bs = words-program (unitsIn w (length bs)) w a (padded w bs)
+store-programs w a bs = store-each Programs (λ _ _. tt) w a bs
 
 apply-program : (a : ℕ) (bs : List ℕ) (us : List FlashUnit) (img : List ℕ) → All Programs us → apply us (program a bs img) ≡ program a bs (apply us img)
 apply-program a bs [] img h = refl
@@ -148,3 +152,54 @@ cut-stored w hw k a bs img i c d e = go (leb-is k (unitsIn w (length bs)))
     go (inr h) =
         ap (λ (us : List FlashUnit). getD (apply us img) (a + i) 0) (take-all k (unitsOf w a bs) (omega (arith, length-units w a bs)) ∙ sym (append-nil (unitsOf w a bs)))
         ∙ stored w hw [] [] a bs i img tt tt d e
+
+-- FF, or the byte that is stored there
+abbrev pub Partly : List ℕ → ℕ → ℕ → Type 0
+Partly bs i x = (x ≡ 255) ⊎ ((i < length bs) × (x ≡ getD bs i 0))
+
+module _ (w : ℕ) (hw : 0 < w) (a : ℕ) (bs img : List ℕ) (i : ℕ) (hl : a + i < length img) (blank : getD img (a + i) 0 ≡ 255) (small : i < length bs → getD bs i 0 < 256) where
+  stored-byte : (k : ℕ) → k ≤ unitsIn w (length bs) → Partly bs i (getD (program a (take (k * w) (padded w bs)) img) (a + i) 0)
+  stored-byte k h = go (leb-is (k * w) i) (leb-is (length bs) i)
+    where
+      long : length (take (k * w) (padded w bs)) ≡ k * w
+      long = length-take-le (k * w) (padded w bs) (omega (arith, length-padded w hw bs, mul-le-mul-right w h))
+
+      at : i < k * w → getD (program a (take (k * w) (padded w bs)) img) (a + i) 0 ≡ bitAnd 255 (getD (padded w bs) i 0)
+      at c =
+          program-at a (take (k * w) (padded w bs)) img i 0 (omega (arith, long)) hl
+          ∙ ap₂ bitAnd blank (getD-take (k * w) (padded w bs) i 0 c)
+
+      go : (k * w ≤ i) ⊎ (i < k * w) → (length bs ≤ i) ⊎ (i < length bs) → Partly bs i (getD (program a (take (k * w) (padded w bs)) img) (a + i) 0)
+      go (inl c) d = inl (program-off a (take (k * w) (padded w bs)) img (a + i) 0 (inr (omega (arith, long))) ∙ blank)
+      go (inr c) (inl d) = inl (at c ∙ ap (bitAnd 255) (getD-pad w hw bs i 0 d (omega (arith, mul-le-mul-right w h))))
+      go (inr c) (inr d) = inr (d, at c ∙ ap (bitAnd 255) (getD-padded w hw bs i 0 d) ∙ ff-and (getD bs i 0) (small d))
+
+  pub partly : (k : ℕ) → Partly bs i (getD (apply (take k (unitsOf w a bs)) img) (a + i) 0)
+  partly k = go (leb-is k (unitsIn w (length bs)))
+    where
+      cut : (n : ℕ) → n ≤ unitsIn w (length bs) → Partly bs i (getD (apply (take n (unitsOf w a bs)) img) (a + i) 0)
+      cut n h = subst (λ (m : List ℕ). Partly bs i (getD m (a + i) 0)) (sym (words-cut n (unitsIn w (length bs)) w a (padded w bs) img h (length-padded w hw bs))) (stored-byte n h)
+
+      go : (k ≤ unitsIn w (length bs)) ⊎ (unitsIn w (length bs) < k) → Partly bs i (getD (apply (take k (unitsOf w a bs)) img) (a + i) 0)
+      go (inl h) = cut k h
+      go (inr h) =
+          let n : length (unitsOf w a bs) ≡ unitsIn w (length bs) = length-units w a bs in
+          subst (λ (us : List FlashUnit). Partly bs i (getD (apply us img) (a + i) 0))
+          (take-all (unitsIn w (length bs)) (unitsOf w a bs) (omega arith) ∙ sym (take-all k (unitsOf w a bs) (omega arith))) (cut (unitsIn w (length bs)) (omega arith))
+
+-- ---- what is padded stays
+
+-- a store leaves every byte that it has no data for
+pub pad-kept : (w : ℕ) (hw : 0 < w) (a : ℕ) (bs img : List ℕ) (j : ℕ) → Off a (length bs) j → a + unitsIn w (length bs) * w ≤ length img → getD img j 0 < 256 → getD (apply (unitsOf w a bs) img) j 0 ≡ getD img j 0
+pad-kept w hw a bs img j (inl h) l byte = frame j 0 (unitsOf w a bs) img (store-miss w hw a bs j (inl h))
+pad-kept w hw a bs img j (inr h) l byte = go (leb-is (a + unitsIn w (length bs) * w) j)
+  where
+    go : (a + unitsIn w (length bs) * w ≤ j) ⊎ (j < a + unitsIn w (length bs) * w) → getD (apply (unitsOf w a bs) img) j 0 ≡ getD img j 0
+    go (inl c) = frame j 0 (unitsOf w a bs) img (store-miss w hw a bs j (inr c))
+    go (inr c) =
+        let e : j ≡ a + (j - a) = omega arith in
+        ap (λ (m : List ℕ). getD m j 0) (store-whole w hw a bs img)
+        ∙ ap (λ (x : ℕ). getD (program a (padded w bs) img) x 0) e
+        ∙ program-at a (padded w bs) img (j - a) 0 (omega (arith, length-padded w hw bs)) (omega arith)
+        ∙ ap₂ bitAnd (ap (λ (x : ℕ). getD img x 0) (sym e)) (getD-pad w hw bs (j - a) 0 (omega arith) (omega arith))
+        ∙ and-ff (getD img j 0) byte
