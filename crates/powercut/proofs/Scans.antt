@@ -3,20 +3,21 @@
 use mathlib.Core.Path.{_≡_, refl, sym, ap, ap₂, _∙_, subst}
 use mathlib.Core.Logic.{_⊎_, inl, inr, _≢_}
 use mathlib.Core.List.{List, [], _∷_, _++_}
-use Prim.Native.Nat.{ℕ, zero, suc, _+_, _-_, _%_, _^_, _≤_, _<_}
+use Prim.Native.Nat.{ℕ, zero, suc, _+_, _-_, _*_, _%_, _^_, _≤_, _<_}
 use native.Mathlib.Nat.{pow-succ', add-zero, mul-le-mul-right}
 use native.Mathlib.Omega.{arith}
 use lib.ListN.{length, take, getD}
 use lib.Bits.{bitAnd}
 use lib.Dec.{eqb}
-use mathlib.Core.Bool.{true}
-use borrow.Author.Tests.{ne-eqb, eq-eqb}
+use mathlib.Core.Bool.{Bool, true, false}
+use borrow.Author.Tests.{ne-eqb, eq-eqb, eqb-true, eqb-false}
 use Rattle.medium.specs.declared.granularity.Granularity.{Granularity}
 use Rattle.medium.specs.declared.geometry.Geometry.{Geometry}
-use Rattle.medium.specs.Granularity.{widthOf, unitsIn, alignOf, sizeAt, header, blockHeader}
+use Rattle.medium.specs.declared.fuse.Fuse.the-variants.{Units}
+use Rattle.medium.specs.Granularity.{widthOf, unitsIn, alignOf, deleteAt, sizeAt, header, blockHeader}
 use Rattle.medium.specs.Geometry.{checkOf, address}
 use Rattle.medium.specs.Units.{FlashUnit}
-use Rattle.medium.specs.Operation.{apply, done, refused}
+use Rattle.medium.specs.Operation.{apply, done, refused, run}
 use Rattle.medium.specs.Medium.{part}
 use Rattle.objects.specs.declared.types.ObjectType.{ObjectType}
 use Rattle.objects.specs.declared.types.TypeRead.the-variants as ty
@@ -27,15 +28,17 @@ use Rattle.objects.specs.declared.header.ObjectHeader.{ObjectHeader}
 use Rattle.objects.specs.Numbers.{number, bytes, unsetOf}
 use Rattle.objects.specs.Types.{typeByte, typeOf}
 use Rattle.objects.specs.Header.{headerAt, payloadOf}
-use Rattle.objects.specs.Info.{found, none, infoAt, totalOf}
+use Rattle.objects.specs.Info.{found, none, infoAt, totalOf, spanOf}
 use Rattle.objects.specs.Listing.{placed, Visit, end, free, broken, Listing, listFrom, listing}
-use Rattle.powercut.specs.Demand.{addressOf, payloadIn, copyOf, Clear, Movable, unitsTo}
+use Rattle.writer.specs.Moving.{moveObject}
+use Rattle.powercut.specs.Demand.{Whole, Gone, addressOf, payloadIn, copyOf, Clear, Movable, unitsTo, Framed, Survives, Demand}
 use Rattle.powercut.specs.Stores.{typeUnits, payUnits, sizeUnits, before}
 use Rattle.powercut.specs.Listed.{Listable}
-use Rattle.powercut.specs.Again.{leftBy}
+use Rattle.powercut.specs.Again.{leftBy, goneOf}
 use Rattle.powercut.specs.Scans.{stopAfter, Ended, Text, Second, payloadUnits, Scanned, Scans}
 use Rattle.medium.proofs.Runs.{apply-append, leb-is}
-use Rattle.medium.proofs.Bytes.{ff-and, Misses, All-take, frame, length-apply, getD-part, length-part, length-units, part-is, fits-up}
+use Rattle.medium.proofs.Bytes.{ff-and, Misses, All-take, frame, length-apply, getD-part, length-part, length-units, part-is, fits-up, Off}
+use Rattle.medium.proofs.Frame.{other-block}
 use Rattle.medium.proofs.Places.{Laid, laid, width-is, align-even, align-least, even-align}
 use Rattle.powercut.proofs.Places.{span}
 use Rattle.medium.proofs.Programs.{cut-stored, Partly, partly}
@@ -44,9 +47,9 @@ use Rattle.shown.proofs.Agreeing.{agree-of}
 use Rattle.objects.proofs.Numbers.{length-bytes}
 use Rattle.powercut.proofs.Crash.{Given, one-long, type-clear, pay-clear, size-clear, pay-byte, copy-begun, copy-between, framed-copied}
 use Rattle.powercut.proofs.Ran.{Ready}
-use Rattle.powercut.proofs.Survive.{N, us, all-copied, cut-before, cut-copied, cut-between, copy-whole, units-are, ready}
+use Rattle.powercut.proofs.Survive.{N, us, all-copied, cut-before, cut-copied, cut-between, copy-whole, span-is, units-are, apart-plain, ready, demand}
 use Rattle.powercut.proofs.Again.{left-is}
-use Rattle.shown.proofs.Walk.{place, spanAt, span-least, info-back, Walked, walk-le, ended, walk-same}
+use Rattle.shown.proofs.Walk.{place, visit, spanAt, span-least, info-back, Walked, walk-le, walk-join, Reached, reached, ended, walk-same}
 use Rattle.shown.proofs.Steps.{at-end, at-object, at-free, at-broken, free-fits, stop-behind}
 use Rattle.powercut.proofs.Phantom.{take-both}
 use Rattle.powercut.proofs.Listed.{free-info}
@@ -416,6 +419,115 @@ module _ (g : Geometry) (h : ObjectHeader) (to : ObjectLocation) (room : ℕ) (t
       go (inl d) = no-second (suc k) (headerOf (Allocated t Untrusted) (sizeSeen gr (g .s) q (last (suc k))) to) (begun-info k d) b
       go (inr d) = no-second (suc k) (copyOf g h to) (finished-info (suc k) (omega arith)) b
 
+  -- ---- after the delete mark: the original reads deleted, and is stepped over as before
+
+  abbrev src : ℕ
+  src = h .location .block
+
+  abbrev off : ℕ
+  off = h .location .offset
+
+  near : H + payloadOf (g .s) h ≤ spanAt g src h
+  near = span-least g src img (v .fine) h .0
+
+  mark-in : deleteAt gr < H
+  mark-in = omega (arith, ld)
+
+  whole-in : off + (H + payloadOf (g .s) h) ≤ g .size
+  unfolding totalOf
+  whole-in = v .whole
+
+  -- the mark lies off what is behind the destination
+  mark-off : (x : ℕ) → x < room → q + x ≢ p + deleteAt gr
+  mark-off x c e = go (apart-plain g h to room t img v)
+    where
+      go : (p + (H + payloadOf (g .s) h) ≤ q) ⊎ (q + room ≤ p) → ⊥
+      go (inl a) = omega (arith, mark-in)
+      go (inr a) = omega arith
+
+  module _ (m : List ℕ) (f : Framed g h to img m) (gone : Gone g h t m) (copy : Whole g (copyOf g h to) t pay m) where
+    fine-moved : checkOf g (length m) ≡ 0
+    fine-moved = ap (checkOf g) (f .long) ∙ v .fine
+
+    behind-moved : (x : ℕ) → spanOf gr (g .s) h ≤ x → to .offset + x + H < g .size → infoAt g (place g dst (to .offset + x)) m ≡ done none
+    behind-moved x a b =
+        let ad : address g dst (to .offset + x) ≡ q + x = omega arith in
+        free-info g dst (to .offset + x) m fine-moved (v .block) (omega (arith, ld))
+        (ap (λ (j : ℕ). getD m j 0) ad ∙ f .elsewhere (q + x) (inr (omega arith)) (mark-off x (omega (arith, w .to-end))) ∙ v .erased x (omega (arith, w .to-end)))
+
+    -- a walk to the destination, and the copy behind it
+    ends-by : (vs : List Visit) → Walked g dst m start vs (to .offset) → Ended (listing g dst m .stop)
+    unfolding listing
+    ends-by vs k =
+        let n : start + length vs ≤ to .offset = walk-le g dst m fine-moved vs start (to .offset) k in
+        let u : g .size - length vs ≡ suc (suc (g .size - length vs - 2)) = omega (arith, n, fits, ld) in
+        subst Ended
+        (sym (stop-behind g dst m fine-moved vs start (to .offset) (g .size) k (omega (arith, n, fits)) ∙ ap (λ (i : ℕ). listFrom i g (placed dst (to .offset)) m .stop) u
+        ∙ ap (λ (x : Listing). x .stop) (at-object g dst m fine-moved (suc (g .size - length vs - 2)) (to .offset) fits (copyOf g h to) (copy .info))))
+        (go (g .size - length vs - 2) (leb-is (g .size) (to .offset + spanAt g dst (copyOf g h to) + H)))
+      where
+        span-copy : spanOf gr (g .s) h ≤ spanAt g dst (copyOf g h to)
+        span-copy = subst (λ (n : ℕ). n ≤ spanAt g dst (copyOf g h to)) (sym (span-is g h to t pay img r)) finished-span
+
+        go : (i : ℕ) → (g .size ≤ to .offset + spanAt g dst (copyOf g h to) + H) ⊎ (to .offset + spanAt g dst (copyOf g h to) + H < g .size)
+            → Ended (listFrom (suc i) g (placed dst (to .offset + spanAt g dst (copyOf g h to))) m .stop)
+        go i (inl b) = inl (ap (λ (x : Listing). x .stop) (at-end g dst m fine-moved i (to .offset + spanAt g dst (copyOf g h to)) b))
+        go i (inr b) = inr (ap (λ (x : Listing). x .stop) (at-free g dst m fine-moved i (to .offset + spanAt g dst (copyOf g h to)) b (behind-moved (spanAt g dst (copyOf g h to)) span-copy b)))
+
+    -- the original in another block
+    walk-apart : src ≢ dst → Walked g dst m start visits (to .offset)
+    walk-apart ne =
+        walk-same g dst img m (v .fine) visits start (to .offset) walked
+        (agree-of g dst start (to .offset) img m (f .long) (λ j a b. f .elsewhere j (inl b) (λ e. aside j a b e (other-block (g .size) dst src (off + deleteAt gr) (λ x. ne (sym x)) (omega (arith, mark-in, whole-in))))))
+      where
+        aside : (j : ℕ) → address g dst start ≤ j → j < q → j ≡ p + deleteAt gr → Off (dst * g .size) (g .size) (src * g .size + (off + deleteAt gr)) → ⊥
+        aside j a b e (inl x) = omega arith
+        aside j a b e (inr x) = omega (arith, fits)
+
+    -- or in the same, before the destination
+    original-at : Reached g src (g .size) img start (w .listed .before) (w .listed .after) (visit g src off h)
+    unfolding listing
+    original-at = reached g src (g .size) img start (w .listed .before) (w .listed .after) (visit g src off h) (w .listed .is)
+
+    abbrev behind : List Visit
+    behind = listFrom (original-at .left) g (placed src (off + spanAt g src h)) img .visits
+
+    gone-span : spanAt g src (goneOf h t) ≡ spanAt g src h
+    unfolding totalOf payloadOf
+    gone-span = refl
+
+    walk-within : src ≡ dst → Walked g src m start (w .listed .before ++ (visit g src off (goneOf h t) ∷ behind)) (to .offset)
+    unfolding listing
+    walk-within e =
+        let k : Walked g src img (off + spanAt g src h) behind (to .offset) =
+        ended g src (original-at .left) img (off + spanAt g src h) (to .offset) (original-at .stop ∙ ap (λ (b : ℕ). listing g b img .stop) e ∙ w .stop) (original-at .last ∙ ap (λ (b : ℕ). listing g b img .last) e ∙ w .last) in
+        let n : off + spanAt g src h + length behind ≤ to .offset = walk-le g src img (v .fine) behind (off + spanAt g src h) (to .offset) k in
+        let s : src * g .size ≡ dst * g .size = ap (λ (b : ℕ). b * g .size) e in
+        walk-join g src m (w .listed .before) (visit g src off (goneOf h t) ∷ behind) start off (to .offset)
+        (walk-same g src img m (v .fine) (w .listed .before) start off (original-at .walked) (agree-of g src start off img m (f .long) (λ j a b. f .elsewhere j (inl (omega arith)) (λ x. omega arith)))) (
+          refl,
+          gone .info,
+          original-at .fits,
+          subst (λ (x : ℕ). Walked g src m (off + x) behind (to .offset)) (sym gone-span)
+              (walk-same g src img m (v .fine) behind (off + spanAt g src h) (to .offset) k
+              (agree-of g src (off + spanAt g src h) (to .offset) img m (f .long) (λ j a b. f .elsewhere j (inl (omega arith)) (λ x. omega (arith, mark-in, near))))),
+        )
+
+    moved-ends : Ended (listing g dst m .stop)
+    moved-ends = go (eqb src dst) refl
+      where
+        go : (c : Bool) → eqb src dst ≡ c → Ended (listing g dst m .stop)
+        go true e =
+            ends-by (w .listed .before ++ (visit g src off (goneOf h t) ∷ behind))
+            (subst (λ (b : ℕ). Walked g b m start (w .listed .before ++ (visit g src off (goneOf h t) ∷ behind)) (to .offset)) (eqb-true src dst e) (walk-within (eqb-true src dst e)))
+        go false e = ends-by visits (walk-apart (eqb-false src dst e))
+
+  moved-all : (k : ℕ) → unitsTo g h + 2 ≤ k → Ended (stopAfter g h to img k)
+  unfolding Demand
+  moved-all k c =
+      let d : Survives g h to t pay img k (run (Units k) (moveObject g h to) img) = demand g h to room t img v .1 k in
+      moved-ends (leftBy g h to img k) (d .framed) (d .after-marks c .0) (d .after-marks c .1)
+
   -- with no unit the listing is the one before the move
   nothing-yet : Ended (stopAfter g h to img 0)
   nothing-yet = inr (ap (λ (m : List ℕ). listing g dst m .stop) (left-is g h to t pay img r 0) ∙ w .stop)
@@ -442,6 +554,7 @@ module _ (g : Geometry) (h : ObjectHeader) (to : ObjectLocation) (room : ℕ) (t
         sized = λ k a b. ended-at k (omega (arith, n-is)) (sized-at k (omega (arith, n-is)) (omega (arith, n-is)));
         unset = λ x second k o a b i e. there k (omega (arith, n-is)) ∙ unset-at x second k o a (omega (arith, n-is)) (info-left k o i) e;
         set = λ k o b i ne. ended-at k (omega (arith, n-is)) (set-at k o (omega (arith, n-is)) (info-left k o i) ne);
+        moved = moved-all;
         narrow = narrow-all;
       }
 

@@ -56,6 +56,8 @@ pub record Scanned (g : Geometry) (h : ObjectHeader) (to : ObjectLocation) (img 
   pub unset : Text (payloadIn g h img) → Second g to → (k : ℕ) (o : ObjectHeader) → 2 ≤ k → k ≤ unitsTo g h → infoAt g to (leftBy g h to img k) ≡ done (found o)
       → o .size ≡ unsetOf (g .s) → stopAfter g h to img k ≡ broken 2
   pub set : (k : ℕ) (o : ObjectHeader) → k ≤ unitsTo g h → infoAt g to (leftBy g h to img k) ≡ done (found o) → o .size ≢ unsetOf (g .s) → Ended (stopAfter g h to img k)
+  -- and once the move is done
+  pub moved : (k : ℕ) → unitsTo g h + 2 ≤ k → Ended (stopAfter g h to img k)
   -- where no second header fits, never
   pub narrow : g .size ≤ to .offset + header (g .granularity) (g .s) + header (g .granularity) (g .s) → (k : ℕ) → k ≤ unitsTo g h + 1 → Ended (stopAfter g h to img k)
 

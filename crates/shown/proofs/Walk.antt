@@ -99,6 +99,11 @@ module _ (g : Geometry) (b : ℕ) where
         ∙ ap₂ (λ (x : ℕ) (xs : List Visit). visit g b x (v .object) ∷ xs) (sym (w .0)) (unwalk vs (o + spanAt g b (v .object)) e n (w .3) (omega arith))
         ∙ ap (λ (x : ℕ). v ∷ (vs ++ listFrom x g (placed b e) m .visits)) k
 
+  -- one walk and then another
+  pub walk-join : (m : List ℕ) (vs ws : List Visit) (o x e : ℕ) → Walked m o vs x → Walked m x ws e → Walked m o (vs ++ ws) e
+  walk-join m [] ws o x e w k = subst (λ (y : ℕ). Walked m y ws e) (sym w) k
+  walk-join m (v ∷ vs) ws o x e w k = (w .0, w .1, w .2, walk-join m vs ws (o + spanAt g b (v .object)) x e (w .3) k)
+
   -- the walk to a visit of a listing, and the rest of the listing behind it
   pub record Reached (n : ℕ) (m : List ℕ) (o : ℕ) (before after : List Visit) (v : Visit) : Type 0 where
     pub left : ℕ
