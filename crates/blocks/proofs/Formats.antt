@@ -18,17 +18,15 @@ use Rattle.medium.specs.Geometry.{geometryOk, admit, checkOf}
 use Rattle.medium.specs.Units.{under, blank}
 use Rattle.medium.specs.Operation.{Answer, done, refused, andThen, run, ask, putting, _>>=_}
 use Rattle.medium.specs.Medium.{readable, writable, erasable, readAt, lent, write, erase}
-use Rattle.medium.proofs.Runs.{run-ask, ask-on, test-on, test-stop}
+use Rattle.medium.proofs.Runs.{run-ask, ask-on, ask-stop, test-on, test-stop}
 use Rattle.medium.proofs.Bytes.{length-erased}
 use Rattle.medium.proofs.Checks.{Fine, sound-is, admitted, passed, admit-pass, picked}
 use Rattle.medium.proofs.Ranges.{read-lent, read-refused}
 use Rattle.medium.proofs.Places.{headed, even-align}
 use Rattle.blocks.specs.declared.header.BlockType.the-variants.{Undefined}
 use Rattle.blocks.specs.declared.header.BlockHeaderKind.the-variants.{Known}
-use Rattle.blocks.specs.declared.format.Plan.{Plan}
-use Rattle.blocks.specs.declared.format.Plan.the-variants as plan
 use Rattle.blocks.specs.BlockHeader.{wideBytes, headerBytes, writeHeader, headerIn, blockHeaderAt}
-use Rattle.blocks.specs.Format.{allFF, dataLength, dataEmptyAt, planBy, planAt, undefined, labelling, renewing, carryOut, formatBlock, formatFrom, formatStorage}
+use Rattle.blocks.specs.Format.{allFF, dataLength, dataEmptyAt, Planned, keep, label, renew, planOf, planAt, undefined, labelling, renewing, carryOut, formatBlock, formatFrom, formatStorage}
 use Rattle.blocks.proofs.Headers.{readable-of}
 
 -- ---- bytes that are FF
@@ -83,12 +81,14 @@ module _ (g : Geometry) (b : ℕ) (img : List ℕ) (h n r : ℕ) (eh : h ≡ blo
 
 -- ---- the plan is carried out
 
-pub format-on : (f : Fuse) (g : Geometry) (b : ℕ) (img : List ℕ) (p : Plan) → p ≡ planAt g b img → run f (formatBlock g b) img ≡ run f (carryOut g b p) img
-unfolding formatBlock
-format-on f g b img p e = ask-on f (λ i. done (planAt g b i)) (λ q. carryOut g b q) img (ap (λ (q : Plan). done q) (sym e))
+module _ (f : Fuse) (g : Geometry) (b : ℕ) (img : List ℕ) where
+  pub format-on : (p : Planned) → done p ≡ planAt g b img → run f (formatBlock g b) img ≡ run f (carryOut g b p) img
+  unfolding formatBlock
+  format-on p e = ask-on f (λ i. planAt g b i) (λ q. carryOut g b q) img (sym e)
 
-pub format-by : (f : Fuse) (g : Geometry) (b : ℕ) (img : List ℕ) (p q : Plan) → p ≡ planAt g b img → p ≡ q → run f (formatBlock g b) img ≡ run f (carryOut g b q) img
-format-by f g b img p q e d = format-on f g b img p e ∙ rw d
+  pub format-stop : (k : ℕ) → refused k ≡ planAt g b img → run f (formatBlock g b) img ≡ record { answer = refused k; fuse = f; state = img }
+  unfolding formatBlock
+  format-stop k e = ask-stop f (λ i. planAt g b i) (λ q. carryOut g b q) img (sym e)
 
 -- ---- block by block
 
@@ -150,29 +150,30 @@ renew-done g b n img e =
     rw e (label-done g b n (under (b * g .size) (blank (g .size)) img) (rw l e))
 
 -- the answer with power is that of the plan's stores
-format-answer : (g : Geometry) (b : ℕ) (img : List ℕ) (p : Plan) → planAt g b img ≡ p → formatBlock g b img .answer ≡ carryOut g b p img .answer
+format-answer : (g : Geometry) (b : ℕ) (img : List ℕ) (p : Planned) → planAt g b img ≡ done p → formatBlock g b img .answer ≡ carryOut g b p img .answer
 unfolding formatBlock _>>=_ ask
 format-answer g b img p e = rw e
 
 -- where there is a plan, the block can be reached
-pub planned : (g : Geometry) (b : ℕ) (img : List ℕ) (p : Plan) → planAt g b img ≡ p → ((k : ℕ) → p ≡ plan.Refused k → ⊥) → erasable g (length img) b ≡ 0
+pub planned : (g : Geometry) (b : ℕ) (img : List ℕ) (p : Planned) → planAt g b img ≡ done p → erasable g (length img) b ≡ 0
 unfolding planAt blockHeaderAt
-planned g b img p e n = go (readAt g b 0 longestBlockHeader img) refl e
+planned g b img p e = go (readAt g b 0 longestBlockHeader img) refl e
   where
-    go : (a : Answer (List ℕ)) → readAt g b 0 longestBlockHeader img ≡ a → planBy g b img (andThen a (λ bs. done (headerIn g bs))) ≡ p → erasable g (length img) b ≡ 0
+    go : (a : Answer (List ℕ)) → readAt g b 0 longestBlockHeader img ≡ a
+        → andThen (andThen a (λ bs. done (headerIn g bs))) (λ h. planOf (h .kind) (h .«erase_count») (dataEmptyAt g b img)) ≡ done p
+        → erasable g (length img) b ≡ 0
     go (done bs) q h = sym (reach-reads g (length img) b 0 longestBlockHeader (λ s. omega (arith, sound-is g s .least))) ∙ readable-of g b 0 longestBlockHeader img bs q
-    go (refused k) q h = absurd (n k (sym h))
+    go (refused k) q h = let z : _≡_ {A = ℕ} 0 1 = cc in absurd (omega arith)
 
-pub format-refused : (g : Geometry) (b : ℕ) (img : List ℕ) (k : ℕ) → planAt g b img ≡ plan.Refused k → formatBlock g b img .answer ≡ refused k
+pub format-refused : (g : Geometry) (b : ℕ) (img : List ℕ) (k : ℕ) → planAt g b img ≡ refused k → formatBlock g b img .answer ≡ refused k
+unfolding formatBlock _>>=_ ask
+format-refused g b img k e = rw e
+
+pub format-done : (g : Geometry) (b : ℕ) (img : List ℕ) (p : Planned) → planAt g b img ≡ done p → formatBlock g b img .answer ≡ done tt
 unfolding ask
-format-refused g b img k e = format-answer g b img (plan.Refused k) e
-
-pub format-kept : (g : Geometry) (b : ℕ) (img : List ℕ) → planAt g b img ≡ plan.Keep → formatBlock g b img .answer ≡ done tt
-unfolding ask
-format-kept g b img e = format-answer g b img plan.Keep e
-
-pub format-labelled : (g : Geometry) (b : ℕ) (img : List ℕ) → planAt g b img ≡ plan.Label → formatBlock g b img .answer ≡ done tt
-format-labelled g b img e = format-answer g b img plan.Label e ∙ label-done g b 0 img (planned g b img plan.Label e (λ k h. let z : _≡_ {A = ℕ} 0 1 = cc in absurd (omega arith)))
-
-pub format-renewed : (g : Geometry) (b : ℕ) (img : List ℕ) (n : ℕ) → planAt g b img ≡ plan.Renew n → formatBlock g b img .answer ≡ done tt
-format-renewed g b img n e = format-answer g b img (plan.Renew n) e ∙ renew-done g b n img (planned g b img (plan.Renew n) e (λ k h. let z : _≡_ {A = ℕ} 0 1 = cc in absurd (omega arith)))
+format-done g b img p e = format-answer g b img p e ∙ go p (planned g b img p e)
+  where
+    go : (p : Planned) → erasable g (length img) b ≡ 0 → carryOut g b p img .answer ≡ done tt
+    go keep r = refl
+    go label r = label-done g b 0 img r
+    go (renew n) r = renew-done g b n img r

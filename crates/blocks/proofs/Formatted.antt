@@ -31,12 +31,11 @@ use Rattle.objects.specs.declared.location.ObjectLocation.{ObjectLocation}
 use Rattle.objects.specs.declared.state.CompositeObjectState.{CompositeObjectState}
 use Rattle.objects.specs.declared.state.CompositeObjectState.the-variants as comp
 use Rattle.objects.specs.declared.header.ObjectHeader.{ObjectHeader}
-use Rattle.objects.specs.declared.iterator.Next.the-variants as next
 use Rattle.objects.specs.Numbers.{number, bytes}
 use Rattle.objects.specs.Types.{typeOf, stateIn}
 use Rattle.objects.specs.Header.{stateAt, sizedAt, headerAt}
 use Rattle.objects.specs.Info.{none, infoIn, infoAt}
-use Rattle.objects.specs.Listing.{startOf, nextOf, listing}
+use Rattle.objects.specs.Listing.{freePlace, startOf, nextOf, listing}
 use Rattle.objects.proofs.Numbers.{byte-bytes}
 use Rattle.objects.proofs.Places.{places}
 use Rattle.objects.proofs.Answers.{or-on}
@@ -45,14 +44,12 @@ use Rattle.blocks.specs.declared.header.BlockType.the-variants.{Metadata
 use Rattle.blocks.specs.declared.header.BlockHeaderKind.{BlockHeaderKind}
 use Rattle.blocks.specs.declared.header.BlockHeaderKind.the-variants.{Empty, Unknown, Known}
 use Rattle.blocks.specs.declared.header.BlockHeader.{BlockHeader}
-use Rattle.blocks.specs.declared.format.Plan.{Plan}
-use Rattle.blocks.specs.declared.format.Plan.the-variants as plan
 use Rattle.blocks.specs.BlockHeader.{typeByte, typeIf, layoutByte, around, wideBytes, headerBytes, writeHeader, kindIn, eraseCountIn, headerIn, blockHeaderAt}
-use Rattle.blocks.specs.Format.{allFF, dataLength, dataEmptyAt, again, planEmpty, planUndefined, planKnown, planOf, planBy, planAt, undefined, labelling, renewing, carryOut, formatBlock}
+use Rattle.blocks.specs.Format.{allFF, dataLength, dataEmptyAt, Planned, keep, label, renew, again, planEmpty, planUndefined, planKnown, planOf, planAt, undefined, labelling, renewing, carryOut, formatBlock}
 use Rattle.blocks.specs.Scan.{scanBlock}
 use Rattle.blocks.specs.Formatted.{HeaderReadsBack, countBy, countIn, plannedCount, freshRecord, FormattedScans}
 use Rattle.blocks.proofs.Headers.{bit-small, readable-of, check-of-read, check-of-header}
-use Rattle.blocks.proofs.Formats.{reach-fine, reach-checked, reach-below, length-header, label-writes, planned, format-on, format-refused}
+use Rattle.blocks.proofs.Formats.{reach-fine, reach-checked, reach-below, length-header, label-writes, planned, format-on, format-stop}
 use Rattle.blocks.proofs.Scans.{scan-by, scan-free}
 use Rattle.blocks.proofs.ReadBack.{header-back, header-ff}
 
@@ -126,7 +123,7 @@ module _ (g : Geometry) (b : ℕ) (img : List ℕ) (n : ℕ) (hd : blockHeaderAt
       let h : blockHeader (g .granularity) + sizeAt (g .granularity) + g .s ≤ g .size = omega (arith, f .sound .least, f .sound .s-most, headed (g .granularity) .block-short, w .most) in
       rw (free-state, reads (blockHeader (g .granularity) + sizeAt (g .granularity)) (g .s) h)
 
-  next-free : nextOf g (startOf g b) img ≡ next.Free
+  next-free : nextOf g (startOf g b) img ≡ done freePlace
   unfolding nextOf
   next-free =
       let f = fine in
@@ -139,7 +136,7 @@ module _ (g : Geometry) (b : ℕ) (img : List ℕ) (n : ℕ) (hd : blockHeaderAt
   unfolding listing
   fresh-scans =
       scan-by g b (undefined n) img (Known Undefined) hd refl
-      ∙ scan-free g img (check-of-header g b img (undefined n) hd) (startOf g b) (nextOf g (startOf g b) img) refl (undefined n) false next-free
+      ∙ scan-free g img (check-of-header g b img (undefined n) hd) (startOf g b) (undefined n) false (sym next-free)
 
 -- ---- a header over an erased block
 
@@ -262,17 +259,17 @@ renewed-scans g b n img e small =
 
 -- ---- what a plan tells of what was read
 
-abbrev Told : BlockHeaderKind → ℕ → Answer Bool → Plan → Type 0
-Told k n e plan.Keep = (k ≡ Known Undefined) × (e ≡ done true)
-Told k n e plan.Label = (k ≡ Empty) × (n ≡ 4294967295) × (e ≡ done true)
-Told k n e (plan.Renew m) = n < 4294967296 → m < 4294967296
-Told k n e (plan.Refused r) = Unit {0}
+abbrev Told : BlockHeaderKind → ℕ → Answer Bool → Answer Planned → Type 0
+Told k n e (done keep) = (k ≡ Known Undefined) × (e ≡ done true)
+Told k n e (done label) = (k ≡ Empty) × (n ≡ 4294967295) × (e ≡ done true)
+Told k n e (done (renew m)) = n < 4294967296 → m < 4294967296
+Told k n e (refused r) = Unit {0}
 
 again-tells : (k : BlockHeaderKind) (n : ℕ) (e : Answer Bool) → Told k n e (again n)
 unfolding again
 again-tells k n e = go (eqb n 4294967295) refl
   where
-    go : (t : Bool) → eqb n 4294967295 ≡ t → Told k n e (pick t (plan.Refused 2) (plan.Renew (n + 1)))
+    go : (t : Bool) → eqb n 4294967295 ≡ t → Told k n e (pick t (refused 2) (done (renew (n + 1))))
     go true q = tt
     go false q = λ h. more (leb-is n 4294967294) h
       where
@@ -289,7 +286,7 @@ plan-tells Empty n e = go (eqb n 4294967295) refl
     last (done false) q = λ _. omega arith
     last (refused r) q = tt
 
-    go : (t : Bool) → eqb n 4294967295 ≡ t → Told Empty n e (pick t (planEmpty e) (plan.Renew 0))
+    go : (t : Bool) → eqb n 4294967295 ≡ t → Told Empty n e (pick t (planEmpty e) (done (renew 0)))
     go true q = last e (eqb-true _ _ q)
     go false q = λ _. omega arith
 plan-tells Unknown n e = λ _. omega arith
@@ -354,20 +351,19 @@ module _ (g : Geometry) (b : ℕ) (img : List ℕ) (bytes : AreBytes img) (h : B
       go (inl lo) = data-ff g b img ed o lo ho
       go (inr hi) = sym (raw-at o (omega (arith, headed (g .granularity) .block-short))) ∙ header-ff g raw raw-byte kind-is count-is o hi
 
-  carried : (p : Plan) → Told (h .kind) (h .«erase_count») (dataEmptyAt g b img) p → ((r : ℕ) → p ≡ plan.Refused r → ⊥) → erasable g (length img) b ≡ 0
-      → scanBlock g b (run Absent (carryOut g b p) img .state) ≡ done (freshRecord (g .granularity) (countBy p (h .«erase_count»)))
-  carried plan.Keep t n e =
+  carried : (p : Planned) → Told (h .kind) (h .«erase_count») (dataEmptyAt g b img) (done p) → erasable g (length img) b ≡ 0
+      → scanBlock g b (run Absent (carryOut g b p) img .state) ≡ done (freshRecord (g .granularity) (countBy (done p) (h .«erase_count»)))
+  carried keep t e =
       let q : h ≡ undefined (h .«erase_count») = ap (λ (x : BlockHeaderKind). record { kind = x; «erase_count» = h .«erase_count» }) (t .0) in
       rw (run-ask {A = Unit {0}} Absent (λ _. done tt) img) (fresh-scans g b img (h .«erase_count») (hd ∙ ap (λ (x : BlockHeader). done x) q) there (t .1))
-  carried plan.Label t n e = labelled-scans g b 0 img e (blank-by (t .0) (t .1) (t .2)) (omega arith)
-  carried (plan.Renew m) t n e = renewed-scans g b m img e (t count-small)
-  carried (plan.Refused r) t n e = absurd (n r refl)
+  carried label t e = labelled-scans g b 0 img e (blank-by (t .0) (t .1) (t .2)) (omega arith)
+  carried (renew m) t e = renewed-scans g b m img e (t count-small)
 
 plan-is : (g : Geometry) (b : ℕ) (img : List ℕ) (h : BlockHeader) → blockHeaderAt g b img ≡ done h → planAt g b img ≡ planOf (h .kind) (h .«erase_count») (dataEmptyAt g b img)
 unfolding planAt
 plan-is g b img h q = rw q
 
-plan-stops : (g : Geometry) (b : ℕ) (img : List ℕ) (r : ℕ) → blockHeaderAt g b img ≡ refused r → planAt g b img ≡ plan.Refused r
+plan-stops : (g : Geometry) (b : ℕ) (img : List ℕ) (r : ℕ) → blockHeaderAt g b img ≡ refused r → planAt g b img ≡ refused r
 unfolding planAt
 plan-stops g b img r q = rw q
 
@@ -375,20 +371,21 @@ pub formatted-scans : FormattedScans
 unfolding FormattedScans
 formatted-scans f g b img bytes e = go (blockHeaderAt g b img) refl
   where
-    planned-done : (r : ℕ) → planAt g b img ≡ plan.Refused r → ⊥
+    planned-done : (r : ℕ) → planAt g b img ≡ refused r → ⊥
     planned-done r q =
-        let w : run f (formatBlock g b) img .answer ≡ refused r = ap (λ (x : End (Unit {0})). x .answer) (format-on f g b img (plan.Refused r) (sym q) ∙ run-ask f (λ _. refused r) img) in
+        let w : run f (formatBlock g b) img .answer ≡ refused r = ap (λ (x : End (Unit {0})). x .answer) (format-stop f g b img r (sym q)) in
         let z : _≡_ {A = ℕ} 0 1 = cc in omega arith
 
-    told : (h : BlockHeader) → blockHeaderAt g b img ≡ done h → Told (h .kind) (h .«erase_count») (dataEmptyAt g b img) (planAt g b img)
-    told h q = rw (plan-is g b img h q) (plan-tells (h .kind) (h .«erase_count») (dataEmptyAt g b img))
-
-    state-is : run f (formatBlock g b) img .state ≡ run Absent (carryOut g b (planAt g b img)) img .state
-    state-is = run-done f (formatBlock g b) img tt e ∙ ap (λ (x : End (Unit {0})). x .state) (format-on Absent g b img (planAt g b img) refl)
+    by-plan : (h : BlockHeader) → blockHeaderAt g b img ≡ done h → (a : Answer Planned) → planAt g b img ≡ a → Told (h .kind) (h .«erase_count») (dataEmptyAt g b img) a
+        → scanBlock g b (run f (formatBlock g b) img .state) ≡ done (freshRecord (g .granularity) (countBy a (h .«erase_count»)))
+    by-plan h q (done p) w t =
+        let s : run f (formatBlock g b) img .state ≡ run Absent (carryOut g b p) img .state = run-done f (formatBlock g b) img tt e ∙ ap (λ (x : End (Unit {0})). x .state) (format-on Absent g b img p (sym w)) in
+        rw s (carried g b img bytes h q p t (planned g b img p w))
+    by-plan h q (refused r) w t = absurd (planned-done r w)
 
     go : (a : Answer BlockHeader) → blockHeaderAt g b img ≡ a
         → scanBlock g b (run f (formatBlock g b) img .state) ≡ done (freshRecord (g .granularity) (plannedCount g b img))
     go (done h) q =
         let c : plannedCount g b img ≡ countBy (planAt g b img) (h .«erase_count») = rw q in
-        rw (state-is, c) (carried g b img bytes h q (planAt g b img) (told h q) planned-done (planned g b img (planAt g b img) refl planned-done))
+        rw c (by-plan h q (planAt g b img) refl (rw (plan-is g b img h q) (plan-tells (h .kind) (h .«erase_count») (dataEmptyAt g b img))))
     go (refused r) q = absurd (planned-done r (plan-stops g b img r q))

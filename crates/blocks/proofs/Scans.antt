@@ -12,7 +12,7 @@ use Rattle.medium.specs.declared.granularity.Granularity.{Granularity}
 use Rattle.medium.specs.declared.geometry.Geometry.{Geometry}
 use Rattle.medium.specs.Granularity.{pick, widthOf}
 use Rattle.medium.specs.Geometry.{checkOf}
-use Rattle.medium.specs.Operation.{done, refused}
+use Rattle.medium.specs.Operation.{Answer, done, refused}
 use Rattle.medium.specs.Medium.{readable, readAt, lent}
 use Rattle.medium.proofs.Bytes.{fits-up}
 use Rattle.medium.proofs.Places.{width-is}
@@ -20,10 +20,8 @@ use Rattle.medium.proofs.Checks.{fine-of-check}
 use Rattle.medium.proofs.Ranges.{read-lent, read-refused}
 use Rattle.objects.specs.declared.header.ObjectHeader.{ObjectHeader}
 use Rattle.objects.specs.declared.iterator.ObjectIterator.{ObjectIterator}
-use Rattle.objects.specs.declared.iterator.Next.{Next}
-use Rattle.objects.specs.declared.iterator.Next.the-variants as next
 use Rattle.objects.specs.Info.{totalOf, spanOf}
-use Rattle.objects.specs.Listing.{nextOf, Listing, listBy, listFrom}
+use Rattle.objects.specs.Listing.{Met, object, freePlace, blockEnd, nextOf, Listing, listBy, listFrom}
 use Rattle.objects.proofs.Answers.{or-on, then-on}
 use Rattle.objects.proofs.Reading.{read-length}
 use Rattle.objects.proofs.Listing.{unroll}
@@ -84,45 +82,48 @@ module _ (g : Geometry) (b : ℕ) (h : BlockHeader) (img : List ℕ) (r : ℕ) (
 
 -- ---- listing, step by step
 
-module _ (g : Geometry) (img : List ℕ) (c : checkOf g (length img) ≡ 0) (i : ObjectIterator) (n : Next) (e : n ≡ nextOf g i img) where
-  rest : listFrom (g .size) g i img ≡ listBy n i (λ j. listFrom (g .size) g j img)
-  rest =
+module _ (g : Geometry) (img : List ℕ) (c : checkOf g (length img) ≡ 0) (i : ObjectIterator) where
+  -- a listing by its first step
+  pub list-by : (m : Answer Met) → m ≡ nextOf g i img → listFrom (g .size) g i img ≡ listBy m i (λ j. listFrom (g .size) g j img)
+  list-by m e =
       let f = fine-of-check g (length img) (checkOf g (length img)) refl c in
       unroll g i img (or-on (checkOf g (length img)) (checkOf g (length img)) refl c) (omega (arith, f .sound .least)) ∙ rw (← e)
 
-  -- a listing by its first step
-  pub list-by : (m : Next) → n ≡ m → listFrom (g .size) g i img ≡ listBy m i (λ j. listFrom (g .size) g j img)
-  list-by m d = rest ∙ rw d
-
   module _ (h : BlockHeader) (a : Bool) where
-    pub scan-more : (o : ObjectHeader) (j : ObjectIterator) → n ≡ next.Object o j → listed h a (listFrom (g .size) g i img) ≡ listed h (isAllocated o) (listFrom (g .size) g j img)
-    scan-more o j d = ap (λ (l : Listing). listed h a l) (list-by (next.Object o j) d)
+    scan-by-step : (m : Answer Met) → m ≡ nextOf g i img → listed h a (listFrom (g .size) g i img) ≡ listed h a (listBy m i (λ j. listFrom (g .size) g j img))
+    scan-by-step m e = ap (λ (l : Listing). listed h a l) (list-by m e)
 
-    pub scan-free : n ≡ next.Free → listed h a (listFrom (g .size) g i img) ≡ done (recordOf h (i .location .offset) (not a))
-    scan-free d = ap (λ (l : Listing). listed h a l) (list-by next.Free d)
+    pub scan-more : (o : ObjectHeader) (j : ObjectIterator) → done (object o j) ≡ nextOf g i img → listed h a (listFrom (g .size) g i img) ≡ listed h (isAllocated o) (listFrom (g .size) g j img)
+    scan-more o j e = scan-by-step (done (object o j)) e
 
-    pub scan-end : n ≡ next.End → listed h a (listFrom (g .size) g i img) ≡ done (recordOf h (i .location .offset) (not a))
-    scan-end d = ap (λ (l : Listing). listed h a l) (list-by next.End d)
+    pub scan-free : done freePlace ≡ nextOf g i img → listed h a (listFrom (g .size) g i img) ≡ done (recordOf h (i .location .offset) (not a))
+    scan-free e = scan-by-step (done freePlace) e
 
-    pub scan-broken : (k : ℕ) → n ≡ next.Refused k → listed h a (listFrom (g .size) g i img) ≡ refused k
-    scan-broken k d = ap (λ (l : Listing). listed h a l) (list-by (next.Refused k) d)
+    pub scan-end : done blockEnd ≡ nextOf g i img → listed h a (listFrom (g .size) g i img) ≡ done (recordOf h (i .location .offset) (not a))
+    scan-end e = scan-by-step (done blockEnd) e
+
+    pub scan-broken : (k : ℕ) → refused k ≡ nextOf g i img → listed h a (listFrom (g .size) g i img) ≡ refused k
+    scan-broken k e = scan-by-step (refused k) e
 
   module _ (m : ℕ) where
-    more-by : (o : ObjectHeader) (l : Listing) (j : ObjectIterator) → freeable g m (listBy (next.Object o j) i (λ j. l)) ≡ freeable g (m + pick (isFreeable o) (totalOf (g .granularity) (g .s) o) 0) l
+    more-by : (o : ObjectHeader) (l : Listing) (j : ObjectIterator) → freeable g m (listBy (done (object o j)) i (λ j. l)) ≡ freeable g (m + pick (isFreeable o) (totalOf (g .granularity) (g .s) o) 0) l
     more-by o l j = rw (add-assoc m (pick (isFreeable o) (totalOf (g .granularity) (g .s) o) 0) (freeableIn (g .granularity) (g .s) (l .visits)))
 
-    pub sum-more : (o : ObjectHeader) (j : ObjectIterator) → n ≡ next.Object o j
+    sum-by-step : (n : Answer Met) → n ≡ nextOf g i img → freeable g m (listFrom (g .size) g i img) ≡ freeable g m (listBy n i (λ j. listFrom (g .size) g j img))
+    sum-by-step n e = ap (λ (l : Listing). freeable g m l) (list-by n e)
+
+    pub sum-more : (o : ObjectHeader) (j : ObjectIterator) → done (object o j) ≡ nextOf g i img
         → freeable g m (listFrom (g .size) g i img) ≡ freeable g (m + pick (isFreeable o) (totalOf (g .granularity) (g .s) o) 0) (listFrom (g .size) g j img)
-    sum-more o j d = ap (λ (l : Listing). freeable g m l) (list-by (next.Object o j) d) ∙ more-by o (listFrom (g .size) g j img) j
+    sum-more o j e = sum-by-step (done (object o j)) e ∙ more-by o (listFrom (g .size) g j img) j
 
-    pub sum-free : n ≡ next.Free → freeable g m (listFrom (g .size) g i img) ≡ pick (leb (i .location .offset) (g .size)) (done (g .size - i .location .offset + m)) (refused 9)
-    sum-free d = let z : m + 0 ≡ m = omega arith in ap (λ (l : Listing). freeable g m l) (list-by next.Free d) ∙ rw z
+    pub sum-free : done freePlace ≡ nextOf g i img → freeable g m (listFrom (g .size) g i img) ≡ pick (leb (i .location .offset) (g .size)) (done (g .size - i .location .offset + m)) (refused 9)
+    sum-free e = let z : m + 0 ≡ m = omega arith in sum-by-step (done freePlace) e ∙ rw z
 
-    pub sum-end : n ≡ next.End → freeable g m (listFrom (g .size) g i img) ≡ pick (leb (i .location .offset) (g .size)) (done (g .size - i .location .offset + m)) (refused 9)
-    sum-end d = let z : m + 0 ≡ m = omega arith in ap (λ (l : Listing). freeable g m l) (list-by next.End d) ∙ rw z
+    pub sum-end : done blockEnd ≡ nextOf g i img → freeable g m (listFrom (g .size) g i img) ≡ pick (leb (i .location .offset) (g .size)) (done (g .size - i .location .offset + m)) (refused 9)
+    sum-end e = let z : m + 0 ≡ m = omega arith in sum-by-step (done blockEnd) e ∙ rw z
 
-    pub sum-broken : (k : ℕ) → n ≡ next.Refused k → freeable g m (listFrom (g .size) g i img) ≡ refused k
-    sum-broken k d = ap (λ (l : Listing). freeable g m l) (list-by (next.Refused k) d)
+    pub sum-broken : (k : ℕ) → refused k ≡ nextOf g i img → freeable g m (listFrom (g .size) g i img) ≡ refused k
+    sum-broken k e = sum-by-step (refused k) e
 
 -- what an object frees is no more than the room that it takes
 pub freed-most : (k : Granularity) (s : ℕ) (o : ObjectHeader) → pick (isFreeable o) (totalOf k s o) 0 ≤ spanOf k s o

@@ -8,7 +8,7 @@ use lib.Dec.{eqb}
 use Rattle.medium.specs.declared.geometry.Geometry.{Geometry}
 use Rattle.medium.specs.Granularity.{pick, blockHeader, typeAt}
 use Rattle.medium.specs.Geometry.{checkOf}
-use Rattle.medium.specs.Operation.{Answer, done, refused, andThen, Op, _>>=_, _>>_, ask, give, refuse, test}
+use Rattle.medium.specs.Operation.{Answer, done, refused, andThen, Op, _>>=_, _>>_, ask, give, test}
 use Rattle.medium.specs.Medium.{readAt, write, erase}
 use Rattle.blocks.specs.declared.header.BlockType.{BlockType}
 use Rattle.blocks.specs.declared.header.BlockType.the-variants.{Metadata, Data, Undefined}
@@ -46,42 +46,49 @@ emptinessNumber (emptiness.Refused n) = n
 
 -- ---- what a format will store: nothing, a header, or an erase and then a header
 
-unfoldable pub again : ℕ → Plan
-again n = pick (eqb n 4294967295) (plan.Refused 2) (plan.Renew (n + 1))
+pub data Planned : Type 0 where
+  keep : Planned
+  label : Planned
+  renew : ℕ → Planned
 
--- an empty header over empty data is not erased
-abbrev pub planEmpty : Answer Bool → Plan
-planEmpty (done true) = plan.Label
-planEmpty (done false) = plan.Renew 0
-planEmpty (refused k) = plan.Refused k
-
-abbrev pub planUndefined : ℕ → Answer Bool → Plan
-planUndefined n (done true) = plan.Keep
-planUndefined n (done false) = again n
-planUndefined n (refused k) = plan.Refused k
-
-unfoldable pub planKnown : BlockType → ℕ → Answer Bool → Plan
-planKnown Metadata n e = again n
-planKnown Data n e = again n
-planKnown Undefined n e = planUndefined n e
-
-unfoldable pub planOf : BlockHeaderKind → ℕ → Answer Bool → Plan
-planOf Empty n e = pick (eqb n 4294967295) (planEmpty e) (plan.Renew 0)
-planOf Unknown n e = plan.Renew 0
-planOf (Known t) n e = planKnown t n e
-
-abbrev pub planBy : Geometry → ℕ → List ℕ → Answer BlockHeader → Plan
-planBy g b img (done h) = planOf (h .kind) (h .«erase_count») (dataEmptyAt g b img)
-planBy g b img (refused k) = plan.Refused k
-
-unfoldable pub planAt : Geometry → ℕ → List ℕ → Plan
-planAt g b img = planBy g b img (blockHeaderAt g b img)
+abbrev pub planAnswer : Plan → Answer Planned
+planAnswer plan.Keep = done keep
+planAnswer plan.Label = done label
+planAnswer (plan.Renew n) = done (renew n)
+planAnswer (plan.Refused k) = refused k
 
 abbrev pub planNumber : Plan → ℕ
 planNumber plan.Keep = 0
 planNumber plan.Label = 0
 planNumber (plan.Renew n) = 0
 planNumber (plan.Refused k) = k
+
+unfoldable pub again : ℕ → Answer Planned
+again n = pick (eqb n 4294967295) (refused 2) (done (renew (n + 1)))
+
+-- an empty header over empty data is not erased
+abbrev pub planEmpty : Answer Bool → Answer Planned
+planEmpty (done true) = done label
+planEmpty (done false) = done (renew 0)
+planEmpty (refused k) = refused k
+
+abbrev pub planUndefined : ℕ → Answer Bool → Answer Planned
+planUndefined n (done true) = done keep
+planUndefined n (done false) = again n
+planUndefined n (refused k) = refused k
+
+unfoldable pub planKnown : BlockType → ℕ → Answer Bool → Answer Planned
+planKnown Metadata n e = again n
+planKnown Data n e = again n
+planKnown Undefined n e = planUndefined n e
+
+unfoldable pub planOf : BlockHeaderKind → ℕ → Answer Bool → Answer Planned
+planOf Empty n e = pick (eqb n 4294967295) (planEmpty e) (done (renew 0))
+planOf Unknown n e = done (renew 0)
+planOf (Known t) n e = planKnown t n e
+
+unfoldable pub planAt : Geometry → ℕ → List ℕ → Answer Planned
+planAt g b img = andThen (blockHeaderAt g b img) (λ h. planOf (h .kind) (h .«erase_count») (dataEmptyAt g b img))
 
 -- ---- the stores
 
@@ -96,15 +103,14 @@ renewing g b n = do
   erase g b
   labelling g b n
 
-abbrev pub carryOut : Geometry → ℕ → Plan → Op (Unit {0})
-carryOut g b plan.Keep = give tt
-carryOut g b plan.Label = labelling g b 0
-carryOut g b (plan.Renew n) = renewing g b n
-carryOut g b (plan.Refused k) = refuse k
+abbrev pub carryOut : Geometry → ℕ → Planned → Op (Unit {0})
+carryOut g b keep = give tt
+carryOut g b label = labelling g b 0
+carryOut g b (renew n) = renewing g b n
 
 unfoldable pub formatBlock : Geometry → ℕ → Op (Unit {0})
 formatBlock g b = do
-  p ← ask (λ img. done (planAt g b img))
+  p ← ask (λ img. planAt g b img)
   carryOut g b p
 
 -- n blocks from b up

@@ -13,11 +13,9 @@ use Rattle.medium.specs.Operation.{Answer, done, refused, run}
 use Rattle.blocks.specs.declared.header.BlockHeaderKind.{BlockHeaderKind}
 use Rattle.blocks.specs.declared.header.BlockHeaderKind.the-variants.{Empty, Unknown, Known}
 use Rattle.blocks.specs.declared.header.BlockHeader.{BlockHeader}
-use Rattle.blocks.specs.declared.format.Plan.{Plan}
-use Rattle.blocks.specs.declared.format.Plan.the-variants as plan
 use Rattle.blocks.specs.declared.record.BlockInfo.{BlockInfo}
 use Rattle.blocks.specs.BlockHeader.{headerBytes, headerIn, blockHeaderAt}
-use Rattle.blocks.specs.Format.{planAt, undefined, formatBlock}
+use Rattle.blocks.specs.Format.{Planned, keep, label, renew, planAt, undefined, formatBlock}
 use Rattle.blocks.specs.Scan.{scanBlock}
 
 -- ---- a header's bytes read back, for every granularity and whatever stands behind them
@@ -36,11 +34,11 @@ HeaderReadsBack =
 -- ---- a formatted block
 
 -- the erase count that a plan leaves where n was read
-abbrev pub countBy : Plan → ℕ → ℕ
-countBy plan.Keep n = n
-countBy plan.Label n = 0
-countBy (plan.Renew m) n = m
-countBy (plan.Refused k) n = n
+abbrev pub countBy : Answer Planned → ℕ → ℕ
+countBy (done keep) n = n
+countBy (done label) n = 0
+countBy (done (renew m)) n = m
+countBy (refused k) n = n
 
 abbrev pub countIn : Answer BlockHeader → ℕ
 countIn (done h) = h .«erase_count»

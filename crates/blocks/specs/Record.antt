@@ -2,6 +2,7 @@
 -- when listing ran past the block" give 9. A call with no image can give 6 but not 7.
 use Prim.Native.Nat.{ℕ, _+_, _-_}
 use mathlib.Core.Bool.{Bool, true, false}
+use mathlib.Core.List.{List, [], _∷_}
 use lib.Dec.{leb, eqb}
 use Rattle.medium.specs.declared.granularity.Granularity.{Granularity}
 use Rattle.medium.specs.declared.geometry.Geometry.{Geometry}
@@ -16,6 +17,7 @@ use Rattle.blocks.specs.declared.header.KindRead.the-variants as kinds
 use Rattle.blocks.specs.declared.record.BlockInfo.{BlockInfo}
 use Rattle.blocks.specs.declared.record.BlockInfoRead.{BlockInfoRead}
 use Rattle.blocks.specs.declared.record.BlockInfoRead.the-variants as read
+use Rattle.blocks.specs.BlockHeader.{kindNumber}
 
 abbrev pub infoAnswer : BlockInfoRead → Answer BlockInfo
 infoAnswer (read.Got r) = done r
@@ -57,6 +59,10 @@ unfoldable pub infoOf : ℕ → ℕ → ℕ → ℕ → Answer BlockInfo
 infoOf kind count used allow =
     andThen (kindOf kind)
     (λ k. andThen (allowOf allow) (λ a. done (record { header = record { kind = k; «erase_count» = count }; «used_bytes» = used; «allow_alloc» = a })))
+
+-- the same numbers of a record, in their order
+abbrev pub recordNumbers : BlockInfo → List ℕ
+recordNumbers r = kindNumber (r .header .kind) ∷ r .header .«erase_count» ∷ r .«used_bytes» ∷ allowNumber (r .«allow_alloc») ∷ []
 
 -- ---- with a sound geometry
 

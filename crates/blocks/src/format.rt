@@ -8,7 +8,7 @@ use medium::fuse::Stored;
 use medium::geometry::Geometry;
 ghost use mathlib.Core.Path.{_≡_};
 ghost use Rattle.medium.specs.Operation.{run, ended};
-ghost use Rattle.blocks.specs.Format.{allFF, dataLength, dataEmptyAt, emptinessAnswer, emptinessNumber, planEmpty, planUndefined, planKnown, planOf, planAt, planNumber, labelling, renewing, formatBlock, formatStorage, setBlockType};
+ghost use Rattle.blocks.specs.Format.{allFF, dataLength, dataEmptyAt, emptinessAnswer, emptinessNumber, planEmpty, planUndefined, planKnown, planOf, planAt, planAnswer, planNumber, labelling, renewing, formatBlock, formatStorage, setBlockType};
 
 // Whether anything is written in a range that was asked for.
 pub enum Emptiness {
@@ -92,7 +92,7 @@ pub fn is_block_data_empty(g: Geometry, image: &[u8], block: u32) -> Emptiness
 
 // One erase more, or 2 where the count cannot go on.
 fn again(n: u32) -> Plan
-    ensures { λ r. ⌜ r ≡ Rattle.blocks.specs.Format.again n ⌝ }
+    ensures { λ r. ⌜ planAnswer r ≡ Rattle.blocks.specs.Format.again n ⌝ }
 {
     if n == 4294967295 {
         return Plan::Refused(2);
@@ -101,7 +101,7 @@ fn again(n: u32) -> Plan
 }
 
 fn plan_empty(e: Emptiness) -> Plan
-    ensures { λ r. ⌜ r ≡ planEmpty (emptinessAnswer e) ⌝ }
+    ensures { λ r. ⌜ planAnswer r ≡ planEmpty (emptinessAnswer e) ⌝ }
 {
     match e {
         Emptiness::Empty => Plan::Label,
@@ -111,7 +111,7 @@ fn plan_empty(e: Emptiness) -> Plan
 }
 
 fn plan_undefined(n: u32, e: Emptiness) -> Plan
-    ensures { λ r. ⌜ r ≡ planUndefined n (emptinessAnswer e) ⌝ }
+    ensures { λ r. ⌜ planAnswer r ≡ planUndefined n (emptinessAnswer e) ⌝ }
 {
     match e {
         Emptiness::Empty => Plan::Keep,
@@ -121,7 +121,7 @@ fn plan_undefined(n: u32, e: Emptiness) -> Plan
 }
 
 fn plan_known(g: Geometry, image: &[u8], block: u32, t: BlockType, n: u32) -> Plan
-    ensures { λ r. ⌜ r ≡ planKnown t n (dataEmptyAt g block (now (image .entry))) ⌝ }
+    ensures { λ r. ⌜ planAnswer r ≡ planKnown t n (dataEmptyAt g block (now (image .entry))) ⌝ }
 {
     match t {
         BlockType::Metadata => again(n),
@@ -131,7 +131,7 @@ fn plan_known(g: Geometry, image: &[u8], block: u32, t: BlockType, n: u32) -> Pl
 }
 
 fn plan_of(g: Geometry, image: &[u8], block: u32, h: BlockHeader) -> Plan
-    ensures { λ r. ⌜ r ≡ planOf (h .kind) (h .«erase_count») (dataEmptyAt g block (now (image .entry))) ⌝ }
+    ensures { λ r. ⌜ planAnswer r ≡ planOf (h .kind) (h .«erase_count») (dataEmptyAt g block (now (image .entry))) ⌝ }
 {
     let n = h.erase_count;
     let kind = h.kind;
@@ -149,7 +149,7 @@ fn plan_of(g: Geometry, image: &[u8], block: u32, h: BlockHeader) -> Plan
 
 // What formatting a block will store, or why it is refused.
 pub fn plan_format(g: Geometry, image: &[u8], block: u32) -> Plan
-    ensures { λ r. ⌜ r ≡ planAt g block (now (image .entry)) ⌝ }
+    ensures { λ r. ⌜ planAnswer r ≡ planAt g block (now (image .entry)) ⌝ }
 {
     let got = BlockHeader::read(g, image, block);
     let BlockHeaderRead::Got(h) = got else {

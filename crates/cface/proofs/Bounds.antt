@@ -18,12 +18,11 @@ use Rattle.objects.specs.declared.header.ObjectHeader.{ObjectHeader}
 use Rattle.objects.specs.declared.reader.ObjectReader.{ObjectReader}
 use Rattle.objects.specs.declared.reader.Reading.the-variants as reading
 use Rattle.objects.specs.declared.metadata.MetadataObjectHeader.{MetadataObjectHeader}
-use Rattle.objects.specs.declared.metadata.NextLocation.the-variants as location
 use Rattle.objects.specs.Types.{rankOf}
 use Rattle.objects.specs.Header.{headerAt, payloadOf, payloadSizeOf}
 use Rattle.objects.specs.Info.{Info, found, none, infoAt}
-use Rattle.objects.specs.Reader.{Chunk, possible, readable, readerAt, readerLen, remaining, remainingOf, leftOf, cursorAt, moved, readSome, readingOf}
-use Rattle.objects.specs.Metadata.{hashAt, numberAt, locationAt, readMetadata, metadataOf, metadataAt, listEnd, listable, listedAt, pastLocation, nextIn, nextBy, nextLocation}
+use Rattle.objects.specs.Reader.{Chunk, possible, readable, readerAt, readerLen, remaining, remainingOf, leftOf, cursorAt, moved, readSome, readingAnswer, counting}
+use Rattle.objects.specs.Metadata.{hashAt, numberAt, locationAt, readMetadata, metadataOf, metadataAt, listEnd, listable, listedAt, pastLocation, location, noMore, nextListed, nextLocation}
 use Rattle.objects.proofs.Reading.{passed, payload-le, left-small, read-length}
 
 -- behind two tests that were passed stands the answer
@@ -93,11 +92,11 @@ read-small g r n img k e = go (leftOf g r (length img)) refl e
     go (refused m) q h = let z : _≡_ {A = ℕ} 0 1 = cc in absurd (omega arith)
 
 -- what a read hands out
-pub read-fits : (g : Geometry) (r : ObjectReader) (n : ℕ) (img : List ℕ) {m : ℕ} {next : ObjectReader} → reading.Read m next ≡ readingOf (readSome g r n img)
+pub read-fits : (g : Geometry) (r : ObjectReader) (n : ℕ) (img : List ℕ) {m : ℕ} {next : ObjectReader} → readingAnswer (reading.Read m next) ≡ andThen (readSome g r n img) counting
     → (m ≤ r .object .size) × (next .cursor ≤ r .object .size)
 read-fits g r n img {m} {next} e = go (readSome g r n img) refl e
   where
-    go : (a : Answer Chunk) → readSome g r n img ≡ a → reading.Read m next ≡ readingOf a → (m ≤ r .object .size) × (next .cursor ≤ r .object .size)
+    go : (a : Answer Chunk) → readSome g r n img ≡ a → readingAnswer (reading.Read m next) ≡ andThen a counting → (m ≤ r .object .size) × (next .cursor ≤ r .object .size)
     go (done k) d h =
         let v = read-small g r n img k d in
         let l : m ≡ length (k .bytes) = cc in
@@ -133,23 +132,23 @@ at-cursor g at img m e = go (infoAt g at img) e
     go (refused n) q = let z : _≡_ {A = ℕ} 0 1 = cc in absurd (omega arith)
 
 -- the metadata header behind a location
-pub past-fits : (g : Geometry) (m : MetadataObjectHeader) (img : List ℕ) {l : ObjectLocation} {next : MetadataObjectHeader} → location.At l next ≡ nextLocation g m img
+pub past-fits : (g : Geometry) (m : MetadataObjectHeader) (img : List ℕ) {l : ObjectLocation} {next : MetadataObjectHeader} → done (location l next) ≡ nextLocation g m img
     → next .cursor ≤ 65542
 unfolding nextLocation listable
 past-fits g m img {l} {next} e = go (listable g m (length img)) refl e
   where
-    named : (a : Answer ObjectLocation) → m .cursor ≤ 65536 → Sound g → location.At l next ≡ nextIn a (pastLocation g m) → next .cursor ≤ 65542
+    named : (a : Answer ObjectLocation) → m .cursor ≤ 65536 → Sound g → done (location l next) ≡ andThen a (λ x. done (location x (pastLocation g m))) → next .cursor ≤ 65542
     named (done x) f v h =
         let z : next ≡ pastLocation g m = cc in
         omega (arith, v .s-most, v .c-most, ap (λ (x : MetadataObjectHeader). x .cursor) z)
     named (refused n) f v h = let z : _≡_ {A = ℕ} 0 1 = cc in absurd (omega arith)
 
     more : (end : ℕ) (t : Bool) → m .cursor ≤ 65536 → Sound g
-        → location.At l next ≡ pick t location.End (nextIn (locationAt g (m .object .location .block) (listedAt g m) img) (pastLocation g m)) → next .cursor ≤ 65542
+        → done (location l next) ≡ pick t (done noMore) (nextListed g m img) → next .cursor ≤ 65542
     more end true f v h = let z : _≡_ {A = ℕ} 0 1 = cc in absurd (omega arith)
     more end false f v h = named (locationAt g (m .object .location .block) (listedAt g m) img) f v h
 
-    go : (a : Answer ℕ) → listable g m (length img) ≡ a → location.At l next ≡ nextBy g m img a → next .cursor ≤ 65542
+    go : (a : Answer ℕ) → listable g m (length img) ≡ a → done (location l next) ≡ andThen a (λ e. pick (leb e (m .cursor)) (done noMore) (nextListed g m img)) → next .cursor ≤ 65542
     go (done end) q h =
         let p = passed g (length img) (m .cursor) (listEnd g (payloadSizeOf (g .s) (m .object))) end q in
         more end (leb end (m .cursor)) (p .0 .cursor-small) (p .0 .fine .sound) h

@@ -14,7 +14,7 @@ use Rattle.medium.specs.Operation.{Answer, done, refused, andThen, orRefuse, nu
 use Rattle.objects.specs.declared.location.ObjectLocation.{ObjectLocation}
 use Rattle.objects.specs.declared.reader.ObjectReader.{ObjectReader}
 use Rattle.objects.specs.declared.reader.Reading.the-variants as reading
-use Rattle.objects.specs.Reader.{Chunk, readingOf}
+use Rattle.objects.specs.Reader.{Chunk, readingAnswer, counting}
 use Rattle.objects.specs.Location.{locationLength, locationBytes, intoBytes}
 use Rattle.objects.proofs.Numbers.{length-bytes}
 use Rattle.crossing.specs.Crossing.{keptAs, keptBy}
@@ -50,18 +50,18 @@ module _ (q : Answer (List ℕ)) (n u : ℕ) (part old : List ℕ) where
 -- ---- what a read hands out
 
 module _ (q : Answer Chunk) (u : ℕ) (ns : List ℕ) where
-  pub chunk-on : (n : ℕ) (next : ObjectReader) → reading.Read n next ≡ readingOf q
+  pub chunk-on : (n : ℕ) (next : ObjectReader) → readingAnswer (reading.Read n next) ≡ andThen q counting
       → (0 ≡ numberOf q) × ((readerNumbers next ≡ keptAs chunkReader q ns) × (n ≡ keptAs chunkLength q u))
   chunk-on n next e = go q e
     where
-      go : (a : Answer Chunk) → reading.Read n next ≡ readingOf a → (0 ≡ numberOf a) × ((readerNumbers next ≡ keptAs chunkReader a ns) × (n ≡ keptAs chunkLength a u))
+      go : (a : Answer Chunk) → readingAnswer (reading.Read n next) ≡ andThen a counting → (0 ≡ numberOf a) × ((readerNumbers next ≡ keptAs chunkReader a ns) × (n ≡ keptAs chunkLength a u))
       go (done k) h = let m : next ≡ k .reader = cc in (refl, (ap readerNumbers m, cc))
       go (refused m) h = let z : _≡_ {A = ℕ} 0 1 = cc in absurd (omega arith)
 
-  pub chunk-stop : (n : ℕ) → reading.Refused n ≡ readingOf q
+  pub chunk-stop : (n : ℕ) → readingAnswer (reading.Refused n) ≡ andThen q counting
       → (n ≡ numberOf q) × ((ns ≡ keptAs chunkReader q ns) × (u ≡ keptAs chunkLength q u))
   chunk-stop n e = go q e
     where
-      go : (a : Answer Chunk) → reading.Refused n ≡ readingOf a → (n ≡ numberOf a) × ((ns ≡ keptAs chunkReader a ns) × (u ≡ keptAs chunkLength a u))
+      go : (a : Answer Chunk) → readingAnswer (reading.Refused n) ≡ andThen a counting → (n ≡ numberOf a) × ((ns ≡ keptAs chunkReader a ns) × (u ≡ keptAs chunkLength a u))
       go (done k) h = let z : _≡_ {A = ℕ} 0 1 = cc in absurd (omega arith)
       go (refused m) h = (cc, (refl, refl))

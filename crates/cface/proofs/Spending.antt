@@ -7,20 +7,18 @@ use native.Mathlib.Omega.{arith}
 use lib.ListN.{getD}
 use lib.Dec.{leb, eqb}
 use borrow.Author.Tests.{ne-eqb}
+use Rattle.medium.specs.declared.granularity.Granularity.{Granularity}
 use Rattle.medium.specs.declared.granularity.Granularity.the-variants.{Bit, Word1, Word4}
-use Rattle.medium.specs.declared.granularity.GranularityRead.the-variants as granularity
 use Rattle.medium.specs.declared.fuse.Stored.{Stored}
 use Rattle.medium.specs.Granularity.{pick, granularityOf}
 use Rattle.medium.specs.Geometry.{geometryOk, checkOf, admit}
 use Rattle.medium.specs.Fuse.{storedNumber}
 use Rattle.medium.specs.Operation.{EndIn, Answer, done, refused, andThen, orRefuse, endedBy, unlessStored}
-use Rattle.objects.specs.declared.types.TypeRead.{TypeRead}
-use Rattle.objects.specs.declared.types.TypeRead.the-variants as ty
 use Rattle.objects.specs.declared.state.CompositeObjectState.{CompositeObjectState}
 use Rattle.objects.specs.declared.header.ObjectHeader.{ObjectHeader}
-use Rattle.objects.specs.Types.{typeOf}
+use Rattle.objects.specs.Types.{TypeSaid, typed, untyped, typeOf}
 use Rattle.writer.specs.declared.writer.ObjectWriter.{ObjectWriter}
-use Rattle.crossing.specs.Crossing.{geometryOf, geometryWith, geometryFor, fuseOf, unitsAfter, crossedWith, crossingWith}
+use Rattle.crossing.specs.Crossing.{geometryOf, geometryFor, fuseOf, unitsAfter, crossedWith, crossingWith}
 use Rattle.crossing.specs.Values.{dataStateOf, stateOf, stateBy, headerFrom, headerOf, located}
 use Rattle.cface.specs.Writers.{sayableOf, writerWith, writerOf, writerNumbers, leftBy, spentAfter}
 use Rattle.crossing.proofs.Crossings.{with-on, with-stop}
@@ -57,7 +55,10 @@ geometry-uncut room b s c size count n e =
     checked true false = omega arith
     checked false y = omega arith
 
-    named : (x y z : Bool) → geometryWith (pick x (granularity.Got Bit) (pick y (granularity.Got Word1) (pick z (granularity.Got Word4) (granularity.Refused 6)))) s c size count ≡ refused n → n < 8
+    made : Granularity → Answer Geometry
+    made k = done (record { granularity = k; s = s; c = c; size = size; count = count })
+
+    named : (x y z : Bool) → andThen (pick x (done Bit) (pick y (done Word1) (pick z (done Word4) (refused 6)))) made ≡ refused n → n < 8
     named true y z h = never _ n h
     named false true z h = never _ n h
     named false false true h = never _ n h
@@ -70,10 +71,10 @@ state-uncut : (kind k n : ℕ) → stateOf kind k ≡ refused n → n < 8
 unfolding stateOf dataStateOf
 state-uncut kind k n e = go (typeOf kind) e
   where
-    go : (t : TypeRead) → stateBy t k ≡ refused n → n < 8
-    go (ty.Got t) h = four {A = CompositeObjectState} n (past (eqb k 3) _ _ n (past (eqb k 2) _ _ n (past (eqb k 1) _ _ n h)))
-    go ty.Free h = four {A = CompositeObjectState} n (past (eqb k 0) _ _ n h)
-    go (ty.Refused m) h = four {A = CompositeObjectState} n h
+    go : (t : Answer TypeSaid) → stateBy t k ≡ refused n → n < 8
+    go (done (typed t)) h = four {A = CompositeObjectState} n (past (eqb k 3) _ _ n (past (eqb k 2) _ _ n (past (eqb k 1) _ _ n h)))
+    go (done untyped) h = four {A = CompositeObjectState} n (past (eqb k 0) _ _ n h)
+    go (refused m) h = four {A = CompositeObjectState} n h
 
 header-uncut : (ns : List ℕ) (n : ℕ) → headerOf ns ≡ refused n → n < 8
 unfolding headerFrom

@@ -4,22 +4,18 @@ use mathlib.Core.List.{List, _++_}
 use Prim.Native.Nat.{ℕ}
 use lib.ListN.{length, drop}
 use Rattle.medium.specs.declared.geometry.Geometry.{Geometry}
-use Rattle.medium.specs.Operation.{Answer, done, refused, andThen, Op}
+use Rattle.medium.specs.Operation.{Answer, done, andThen, Op}
 use Rattle.objects.specs.declared.location.ObjectLocation.{ObjectLocation}
 use Rattle.objects.specs.declared.header.ObjectHeader.{ObjectHeader}
 use Rattle.objects.specs.declared.state.ObjectDataState.{ObjectDataState}
 use Rattle.objects.specs.declared.reader.ObjectReader.{ObjectReader}
 use Rattle.objects.specs.declared.metadata.MetadataObjectHeader.{MetadataObjectHeader}
-use Rattle.objects.specs.declared.metadata.NextLocation.{NextLocation}
-use Rattle.objects.specs.declared.metadata.NextLocation.the-variants as location
 use Rattle.objects.specs.declared.iterator.ObjectIterator.{ObjectIterator}
-use Rattle.objects.specs.declared.iterator.Next.{Next}
-use Rattle.objects.specs.declared.iterator.Next.the-variants as next
 use Rattle.objects.specs.Location.{locationLength, intoBytes, fromBytes}
 use Rattle.objects.specs.Header.{headerAt, updateState, setState, setPayloadSize}
 use Rattle.objects.specs.Info.{Info, found, none, infoAt, totalSize}
-use Rattle.objects.specs.Metadata.{readMetadata, metadataAt, nextLocation, resetOf}
-use Rattle.objects.specs.Listing.{startOf, nextOf}
+use Rattle.objects.specs.Metadata.{readMetadata, metadataAt, Listed, location, noMore, nextLocation, resetOf}
+use Rattle.objects.specs.Listing.{startOf, Met, object, freePlace, blockEnd, nextOf}
 use Rattle.objects.specs.Reader.{Chunk, readerAt, readerLen, remaining, rewound, readSome}
 use Rattle.crossing.specs.Crossing.{under}
 use Rattle.crossing.specs.Values.{located, targetOf, headerOf, headerNumbers, readerOf, readerNumbers, metadataOf, metadataNumbers, iteratorOf, iteratorNumbers, locationNumbers}
@@ -118,58 +114,41 @@ abbrev pub resetIn : Answer Geometry → List ℕ → Answer MetadataObjectHeade
 resetIn a ns = askMetadata a ns (λ g m. done (resetOf m))
 
 -- the next location with the metadata header behind it, or the end of the list
-abbrev pub locationTold : NextLocation → Answer NextLocation
-locationTold (location.At l m) = done (location.At l m)
-locationTold location.End = done location.End
-locationTold (location.Refused n) = refused n
+abbrev pub nextLocationIn : Answer Geometry → List ℕ → List ℕ → Answer Listed
+nextLocationIn a ns img = askMetadata a ns (λ g m. nextLocation g m img)
 
-abbrev pub nextLocationIn : Answer Geometry → List ℕ → List ℕ → Answer NextLocation
-nextLocationIn a ns img = askMetadata a ns (λ g m. locationTold (nextLocation g m img))
+abbrev pub locationFound : Listed → ℕ
+locationFound (location l m) = 1
+locationFound noMore = 0
 
-abbrev pub locationFound : NextLocation → ℕ
-locationFound (location.At l m) = 1
-locationFound location.End = 0
-locationFound (location.Refused n) = 0
+abbrev pub locationNext : Listed → List ℕ → List ℕ
+locationNext (location l m) old = locationNumbers l
+locationNext noMore old = old
 
-abbrev pub locationNext : NextLocation → List ℕ → List ℕ
-locationNext (location.At l m) old = locationNumbers l
-locationNext location.End old = old
-locationNext (location.Refused n) old = old
-
-abbrev pub metadataNext : NextLocation → List ℕ → List ℕ
-metadataNext (location.At l m) old = metadataNumbers m
-metadataNext location.End old = old
-metadataNext (location.Refused n) old = old
+abbrev pub metadataNext : Listed → List ℕ → List ℕ
+metadataNext (location l m) old = metadataNumbers m
+metadataNext noMore old = old
 
 -- ---- iterators
 
 abbrev pub startIn : Answer Geometry → ℕ → Answer ObjectIterator
 startIn a block = andThen a (λ g. done (startOf g block))
 
--- an object with the iterator behind it, or the end of the listing
-abbrev pub nextTold : Next → Answer Next
-nextTold (next.Object h i) = done (next.Object h i)
-nextTold next.Free = done next.Free
-nextTold next.End = done next.End
-nextTold (next.Refused n) = refused n
+-- an object with the iterator behind it, or where the listing stops
+abbrev pub nextIn : Answer Geometry → List ℕ → List ℕ → Answer Met
+nextIn a ns img = andThen a (λ g. nextOf g (iteratorOf ns) img)
 
-abbrev pub nextIn : Answer Geometry → List ℕ → List ℕ → Answer Next
-nextIn a ns img = andThen a (λ g. nextTold (nextOf g (iteratorOf ns) img))
+abbrev pub nextFound : Met → ℕ
+nextFound (object h i) = 1
+nextFound freePlace = 0
+nextFound blockEnd = 0
 
-abbrev pub nextFound : Next → ℕ
-nextFound (next.Object h i) = 1
-nextFound next.Free = 0
-nextFound next.End = 0
-nextFound (next.Refused n) = 0
+abbrev pub nextHeader : Met → List ℕ → List ℕ
+nextHeader (object h i) old = headerNumbers h
+nextHeader freePlace old = old
+nextHeader blockEnd old = old
 
-abbrev pub nextHeader : Next → List ℕ → List ℕ
-nextHeader (next.Object h i) old = headerNumbers h
-nextHeader next.Free old = old
-nextHeader next.End old = old
-nextHeader (next.Refused n) old = old
-
-abbrev pub nextIterator : Next → List ℕ → List ℕ
-nextIterator (next.Object h i) old = iteratorNumbers i
-nextIterator next.Free old = old
-nextIterator next.End old = old
-nextIterator (next.Refused n) old = old
+abbrev pub nextIterator : Met → List ℕ → List ℕ
+nextIterator (object h i) old = iteratorNumbers i
+nextIterator freePlace old = old
+nextIterator blockEnd old = old

@@ -1,10 +1,9 @@
 // The collector for C. The table is four numbers a block: kind, erase count, used bytes, allow mark.
-use collector::passes;
 use crossing::call;
 use crossing::call::GeometryRead;
 ghost use mathlib.Core.Path.{_≡_};
 ghost use Rattle.medium.specs.Operation.{run};
-ghost use Rattle.collector.specs.Table.{both};
+ghost use Rattle.medium.specs.Beside.{both};
 ghost use Rattle.collector.specs.Passes.{deleteInvalidObjects, eraseInvalidFinishedBlocks, eraseFullFinishedBlocks, collect};
 ghost use Rattle.crossing.specs.Crossing.{geometryOf, fuseOf, crossed, crossing, under};
 
@@ -28,7 +27,7 @@ pub extern "C" fn stumpchoir_delete_invalid_objects(
         return told.number();
     };
     let f = call::fuse_of(fused, units);
-    let a = passes::delete_invalid_objects(g, image, table, f);
+    let a = collector::delete_invalid_objects(g, image, table, f);
     call::hand_back(a, units)
 }
 
@@ -52,7 +51,7 @@ pub extern "C" fn stumpchoir_erase_invalid_finished_blocks(
         return told.number();
     };
     let f = call::fuse_of(fused, units);
-    let a = passes::erase_invalid_finished_blocks(g, image, table, f);
+    let a = collector::erase_invalid_finished_blocks(g, image, table, f);
     call::hand_back(a, units)
 }
 
@@ -76,7 +75,7 @@ pub extern "C" fn stumpchoir_erase_full_finished_blocks(
         return told.number();
     };
     let f = call::fuse_of(fused, units);
-    let a = passes::erase_full_finished_blocks(g, image, table, f);
+    let a = collector::erase_full_finished_blocks(g, image, table, f);
     call::hand_back(a, units)
 }
 
@@ -100,6 +99,6 @@ pub extern "C" fn stumpchoir_run(
         return told.number();
     };
     let f = call::fuse_of(fused, units);
-    let a = passes::run(g, image, table, f);
+    let a = collector::run(g, image, table, f);
     call::hand_back(a, units)
 }

@@ -15,10 +15,13 @@ use Rattle.medium.specs.Geometry.{checkOf, address}
 use Rattle.medium.specs.Units.{FlashUnit, padded, unitsOf}
 use Rattle.medium.specs.Operation.{flash, happen, apply, Answer, done, Op, _>>=_, ask, give, refuse, putting}
 use Rattle.medium.specs.Medium.{writable, write}
+use Rattle.medium.specs.Beside.{Both, onImage, beside}
 use Rattle.medium.proofs.Runs.{bound}
 use Rattle.medium.proofs.Bytes.{fits-up, length-padded, store-whole, getD-padded, program-at}
 use Rattle.medium.proofs.Places.{width-is}
 use Rattle.medium.proofs.Checks.{write-at}
+use Rattle.medium.proofs.Beside.{image-left, image-answer, image-quiet}
+use Rattle.medium.proofs.Left.{left, bind-left, bind-events, tested, ask-events}
 use Rattle.objects.specs.declared.state.CompositeObjectState.{CompositeObjectState}
 use Rattle.objects.specs.declared.state.CompositeObjectState.the-variants as comp
 use Rattle.objects.specs.declared.state.ObjectDataState.the-variants as data-state
@@ -30,10 +33,9 @@ use Rattle.objects.specs.declared.header.PayloadSize.the-variants.{Set, Unset}
 use Rattle.objects.specs.Types.{rankOf}
 use Rattle.objects.specs.Header.{payloadSizeOf, marking, stepTo, setState, updateState, setPayloadSize}
 use Rattle.blocks.specs.Scan.{isAllocated}
-use Rattle.collector.specs.Table.{Both, Pass, onImage, allowing}
+use Rattle.collector.specs.Table.{Pass, allowing}
 use Rattle.collector.specs.Passes.{deleteObject, repairBy, payloadFrom, repairing, repaired, visitOne}
-use Rattle.collector.proofs.Stores.{sized-as}
-use Rattle.collector.proofs.Left.{left, bind-left, bind-events, tested, ask-events, image-left, image-answer, image-quiet}
+use Rattle.collector.proofs.Touched.{sized-as}
 
 -- ---- a byte 00
 
@@ -149,4 +151,4 @@ visit-left g b used h s d e = go (isAllocated h) refl e
         let x = bound (onImage (repairing g h used)) (λ v. repaired b v) s d p in
         let a = sym (image-answer (repairing g h used) s) ∙ x .first in
         stored one (x .value) a (x .first) (x .second) (repair-left g h used (s .image) (x .value) one a)
-    go false q p = inl (ask-events (λ _. done true) s, (λ one. absurd (eqb-false (rankOf (h .state)) 1 q one)))
+    go false q p = inl (ask-events beside (λ _. done true) s, (λ one. absurd (eqb-false (rankOf (h .state)) 1 q one)))

@@ -11,11 +11,12 @@ use borrow.Author.Tests.{eqb-true}
 use Rattle.medium.specs.declared.geometry.Geometry.{Geometry}
 use Rattle.medium.specs.Granularity.{pick, header}
 use Rattle.medium.specs.Operation.{Answer, done, refused, ask, give, follow, _>>=_}
+use Rattle.medium.specs.Beside.{Both, beside}
 use Rattle.objects.specs.Types.{rankOf}
 use Rattle.objects.specs.Listing.{Visit, Stop, end, free, broken, listing}
 use Rattle.blocks.specs.declared.record.BlockInfo.{BlockInfo}
 use Rattle.blocks.specs.Scan.{unlessBroken}
-use Rattle.collector.specs.Table.{Both, gc, Pass}
+use Rattle.collector.specs.Table.{Pass}
 use Rattle.collector.specs.Passes.{lastOf, endsUnfinished, unfinishedIn, allDeleted, deletedIn, erasing, eraseInvalidFinishedBlock, eraseFullFinishedBlock}
 use Rattle.collector.specs.Finished.{Finalized, Shows, Finished, Broken, Guarded}
 
@@ -69,7 +70,7 @@ deleted-spares (v ∷ vs) s h e = go (eqb (rankOf (v .object .state)) 3) refl e 
 -- ---- so nothing is stored, not a unit and not a field
 
 module _ (g : Geometry) (b : ℕ) (r : BlockInfo) (s : Both) (h : Guarded (listing g b (s .image))) where
-  silent : (a : Answer Bool) → (a ≡ done true → ⊥) → follow {W = gc} [] a (λ d. erasing g b r d) s .events ≡ []
+  silent : (a : Answer Bool) → (a ≡ done true → ⊥) → follow {W = beside} [] a (λ d. erasing g b r d) s .events ≡ []
   unfolding erasing ask
   silent (done true) n = absurd (n refl)
   silent (done false) n = refl

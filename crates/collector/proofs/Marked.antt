@@ -18,27 +18,21 @@ use Rattle.medium.specs.Medium.{part, readable, readAt}
 use Rattle.medium.proofs.Bytes.{getD-part}
 use Rattle.medium.proofs.Places.{laid}
 use Rattle.objects.specs.declared.types.ObjectType.{ObjectType}
-use Rattle.objects.specs.declared.types.TypeRead.{TypeRead}
-use Rattle.objects.specs.declared.types.TypeRead.the-variants as ty
 use Rattle.objects.specs.declared.state.ObjectDataState.{ObjectDataState}
-use Rattle.objects.specs.declared.state.DataStateRead.{DataStateRead}
-use Rattle.objects.specs.declared.state.DataStateRead.the-variants as mark
 use Rattle.objects.specs.declared.state.CompositeObjectState.{CompositeObjectState}
 use Rattle.objects.specs.declared.state.CompositeObjectState.the-variants as comp
 use Rattle.objects.specs.declared.location.ObjectLocation.{ObjectLocation}
 use Rattle.objects.specs.declared.header.ObjectHeader.{ObjectHeader}
 use Rattle.objects.specs.declared.iterator.ObjectIterator.{ObjectIterator}
-use Rattle.objects.specs.declared.iterator.Next.{Next}
-use Rattle.objects.specs.declared.iterator.Next.the-variants as next
 use Rattle.objects.specs.Numbers.{number}
-use Rattle.objects.specs.Types.{typeOf, marksOf, withMark, compositeOf, stateIn}
+use Rattle.objects.specs.Types.{typeOf, marksOf, withMark, compositeOf, stateIn, TypeSaid, typed, untyped}
 use Rattle.objects.specs.Header.{stateAt, sizedAt, headerAt, payloadOf}
 use Rattle.objects.specs.Info.{Info, found, infoIn, infoAt, totalOf}
-use Rattle.objects.specs.Listing.{startOf, behind, nextIn, nextOf, Visit, listBy, listFrom, listing}
+use Rattle.objects.specs.Listing.{startOf, behind, Met, object, freePlace, blockEnd, nextIn, nextOf, Visit, listBy, listFrom, listing}
 use Rattle.objects.proofs.Listing.{next-found, next-moves}
 use Rattle.objects.proofs.Places.{places}
 use Rattle.collector.specs.Finished.{Allocated, Reached, Guarded}
-use Rattle.collector.proofs.Agreeing.{Agree, found-short, read-agree, info-agree, next-by}
+use Rattle.shown.proofs.Agreeing.{Agree, found-short, read-agree, info-agree, next-by}
 use Rattle.collector.proofs.Untouched.{header-avoids, Outside, ahead}
 
 -- ---- a header of which the type and the size stay
@@ -93,15 +87,15 @@ pub parts : (g : Geometry) (at : ObjectLocation) (img : List ℕ) (h : ObjectHea
 unfolding infoAt headerAt
 parts g at img h e = go (stateAt g at img) refl e
   where
-    object : (st : CompositeObjectState) (v : ObjectHeader) → stateAt g at img ≡ done st → sizedAt g at st img ≡ done v → done (infoIn st v) ≡ done (found h) → Parts g at img h
-    object comp.Free v q r p = let z : _≡_ {A = ℕ} 0 1 = cc in absurd (omega arith)
-    object (comp.Allocated t d) v q r p =
+    allocated : (st : CompositeObjectState) (v : ObjectHeader) → stateAt g at img ≡ done st → sizedAt g at st img ≡ done v → done (infoIn st v) ≡ done (found h) → Parts g at img h
+    allocated comp.Free v q r p = let z : _≡_ {A = ℕ} 0 1 = cc in absurd (omega arith)
+    allocated (comp.Allocated t d) v q r p =
         let s : v ≡ h = cc in
         record { type = t; mark = d; state = q; sized = r ∙ ap (λ (z : ObjectHeader). done z) s }
 
     sized : (st : CompositeObjectState) (x : Answer ObjectHeader) → stateAt g at img ≡ done st → sizedAt g at st img ≡ x
         → andThen x (λ v. done (infoIn (v .state) v)) ≡ done (found h) → Parts g at img h
-    sized st (done v) q r p = object st v q r (subst (λ (x : CompositeObjectState). done (infoIn x v) ≡ done (found h)) (state-sized g at img st v r) p)
+    sized st (done v) q r p = allocated st v q r (subst (λ (x : CompositeObjectState). done (infoIn x v) ≡ done (found h)) (state-sized g at img st v r) p)
     sized st (refused n) q r p = let z : _≡_ {A = ℕ} 0 1 = cc in absurd (omega arith)
 
     go : (x : Answer CompositeObjectState) → stateAt g at img ≡ x → andThen (andThen x (λ st. sizedAt g at st img)) (λ v. done (infoIn (v .state) v)) ≡ done (found h) → Parts g at img h
@@ -115,15 +109,15 @@ module _ (g : Geometry) (at : ObjectLocation) (img other : List ℕ) (l : length
   unfolding stateAt stateIn
   remarked t d e = go (readAt g (at .block) (at .offset) (sizeAt (g .granularity)) img) refl e
     where
-      typed : (x : TypeRead) (m : DataStateRead) → compositeOf x m ≡ done (comp.Allocated t d) → x ≡ ty.Got t
-      typed (ty.Got u) (mark.Got c) p = cc
-      typed (ty.Got u) (mark.Refused k) p = let z : _≡_ {A = ℕ} 0 1 = cc in absurd (omega arith)
-      typed ty.Free m p = let z : _≡_ {A = ℕ} 0 1 = cc in absurd (omega arith)
-      typed (ty.Refused k) m p = let z : _≡_ {A = ℕ} 0 1 = cc in absurd (omega arith)
+      type-is : (x : Answer TypeSaid) (m : Answer ObjectDataState) → compositeOf x m ≡ done (comp.Allocated t d) → x ≡ done (typed t)
+      type-is (done (typed u)) (done c) p = cc
+      type-is (done (typed u)) (refused k) p = let z : _≡_ {A = ℕ} 0 1 = cc in absurd (omega arith)
+      type-is (done untyped) m p = let z : _≡_ {A = ℕ} 0 1 = cc in absurd (omega arith)
+      type-is (refused k) m p = let z : _≡_ {A = ℕ} 0 1 = cc in absurd (omega arith)
 
-      with-mark : (m : DataStateRead) → stateAt g at other ≡ withMark t m → Remarked g at t other
-      with-mark (mark.Got c) q = legible c q
-      with-mark (mark.Refused k) q = illegible k q
+      with-mark : (m : Answer ObjectDataState) → stateAt g at other ≡ withMark t m → Remarked g at t other
+      with-mark (done c) q = legible c q
+      with-mark (refused k) q = illegible k q
 
       go : (x : Answer (List ℕ)) → readAt g (at .block) (at .offset) (sizeAt (g .granularity)) img ≡ x
           → andThen x (λ bs. compositeOf (typeOf (getD bs 0 0)) (marksOf (g .granularity) (getD bs (finishAt (g .granularity)) 0) (getD bs (deleteAt (g .granularity)) 0))) ≡ done (comp.Allocated t d)
@@ -134,7 +128,7 @@ module _ (g : Geometry) (at : ObjectLocation) (img other : List ℕ) (l : length
           let z : at .offset + 0 ≡ at .offset = omega arith in
           let s : getD (part (address g (at .block) (at .offset)) (sizeAt (g .granularity)) other) 0 0 ≡ getD bs 0 0 =
           same-byte g (at .block) (at .offset) (sizeAt (g .granularity)) 0 img other (omega (arith, places (g .granularity) .least)) (rw z type-same) ∙ ap (λ (x : List ℕ). getD x 0 0) (sym (v .this)) in
-          let y = typed (typeOf (getD bs 0 0)) _ p in
+          let y = type-is (typeOf (getD bs 0 0)) _ p in
           with-mark (marksOf (g .granularity) (getD (part (address g (at .block) (at .offset)) (sizeAt (g .granularity)) other) (finishAt (g .granularity)) 0) (getD (part (address g (at .block) (at .offset)) (sizeAt (g .granularity)) other) (deleteAt (g .granularity)) 0))
           (rw (v .that, s, y))
 
@@ -192,17 +186,17 @@ still (suc n) g i img other v r = go (nextOf g i img) refl (v .same) r (λ j w q
     Same : List Visit → Type 0
     Same vs = (o : ℕ) → from ≤ o → o < g .size → Outside g o vs → getD other (address g b o) 0 ≡ getD img (address g b o) 0
 
-    onward : (h : ObjectHeader) (j : ObjectIterator) → nextOf g i other ≡ next.Object h j → Guarded (listFrom n g j other) → Guarded (listBy (nextOf g i other) i (λ j. listFrom n g j other))
+    onward : (h : ObjectHeader) (j : ObjectIterator) → nextOf g i other ≡ done (object h j) → Guarded (listFrom n g j other) → Guarded (listBy (nextOf g i other) i (λ j. listFrom n g j other))
     onward h j e (inl s) = rw e (inl (inr s))
     onward h j e (inr s) = rw e (inr s)
 
-    go : (x : Next) → nextOf g i img ≡ x → Same (listBy x i (λ j. listFrom n g j img) .visits) → Reached g (listBy x i (λ j. listFrom n g j img) .visits)
+    go : (x : Answer Met) → nextOf g i img ≡ x → Same (listBy x i (λ j. listFrom n g j img) .visits) → Reached g (listBy x i (λ j. listFrom n g j img) .visits)
         → ((j : ObjectIterator) → Spared n g j img other → Reached g (listFrom n g j img .visits) → Guarded (listFrom n g j other))
         → Guarded (listBy (nextOf g i other) i (λ j. listFrom n g j other))
-    go next.Free e s q more = absurd q
-    go next.End e s q more = absurd q
-    go (next.Refused k) e s q more = absurd q
-    go (next.Object h j) e s (inl two) more =
+    go (done freePlace) e s q more = absurd q
+    go (done blockEnd) e s q more = absurd q
+    go (refused k) e s q more = absurd q
+    go (done (object h j)) e s (inl two) more =
         let f = next-found g i img h j e in
         let m = next-moves g i img h j e in
         let a = laid (g .granularity) (g .s) 0 (found-short g i img h j e) in
@@ -210,7 +204,7 @@ still (suc n) g i img other v r = go (nextOf g i img) refl (v .same) r (λ j w q
         record { long = v .long; same = λ o lo hi. s o lo (omega (arith, f .fits)) ((λ one. absurd (omega (arith, two, one))), ahead n g o j img (omega (arith, m .forward))) } in
         let p = next-by g i img other (v .long) (info-agree g (i .location) (from + header (g .granularity) (g .s)) img other w (λ _. omega (arith, a .size-plain)) (λ _. omega (arith, a .size-plain))) in
         rw (p, e) (inl (inl two))
-    go (next.Object h j) e s (inr q) more =
+    go (done (object h j)) e s (inr q) more =
         let f = next-found g i img h j e in
         let m = next-moves g i img h j e in
         let a = laid (g .granularity) (g .s) 0 (found-short g i img h j e) in
@@ -224,8 +218,8 @@ still (suc n) g i img other v r = go (nextOf g i img) refl (v .same) r (λ j w q
         by : (h : ObjectHeader) → j ≡ behind g i h → orRefuse (checkOf g (length img)) ≡ done tt → from + header (g .granularity) (g .s) < g .size
             → Marked g (i .location) (h .size) other → Guarded (listFrom n g j other) → Guarded (listBy (nextOf g i other) i (λ j. listFrom n g j other))
         by h p c f (readable-as u x y) k =
-            let l : nextOf g i other ≡ next.Object u (behind g i u) = next-is g i img other (done (found u)) (v .long) c f y in
-            onward u j (l ∙ ap (λ (z : ObjectIterator). next.Object u z) (behind-same g i u h x ∙ sym p)) k
+            let l : nextOf g i other ≡ done (object u (behind g i u)) = next-is g i img other (done (found u)) (v .long) c f y in
+            onward u j (l ∙ ap (λ (z : ObjectIterator). done (object u z)) (behind-same g i u h x ∙ sym p)) k
         by h p c f (unreadable d y) k = rw (next-is g i img other (refused d) (v .long) c f y) (inr tt)
 
 -- in a block

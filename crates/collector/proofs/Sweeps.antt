@@ -7,9 +7,10 @@ use lib.ListN.{length}
 use Rattle.medium.specs.declared.geometry.Geometry.{Geometry}
 use Rattle.medium.specs.declared.fuse.Fuse.{Fuse}
 use Rattle.medium.specs.Operation.{Answer, done, refused, run, _>>=_}
+use Rattle.medium.specs.Beside.{Both, both, beside}
 use Rattle.medium.proofs.Runs.{run-ask-in, ask-on, ask-stop, test-on, test-stop}
 use Rattle.blocks.specs.declared.record.BlockInfo.{BlockInfo}
-use Rattle.collector.specs.Table.{Both, both, gc, recordAt, collectable}
+use Rattle.collector.specs.Table.{recordAt, collectable}
 use Rattle.collector.specs.Passes.{Step, blockStep, sweep, pass}
 
 module _ (step : Step) (g : Geometry) where
@@ -29,7 +30,7 @@ module _ (step : Step) (g : Geometry) where
 
   pub sweep-end : (n b : ℕ) (f : Fuse) (s : Both) → n ≤ b → run f (sweep step (n - b) g b) s ≡ record { answer = done tt; fuse = f; state = s }
   unfolding sweep
-  sweep-end n b f s h = let e : n - b ≡ 0 = omega arith in rw e (run-ask-in gc f (λ _. done tt) s)
+  sweep-end n b f s h = let e : n - b ≡ 0 = omega arith in rw e (run-ask-in beside f (λ _. done tt) s)
 
   module _ (f : Fuse) (i t : List ℕ) (r : ℕ) (e : r ≡ collectable g (length i) t) where
     pub pass-stop : (r ≡ 0 → ⊥) → run f (pass step g) (both i t) ≡ record { answer = refused r; fuse = f; state = both i t }

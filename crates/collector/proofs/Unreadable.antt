@@ -15,51 +15,46 @@ use Rattle.medium.specs.declared.geometry.Geometry.{Geometry}
 use Rattle.medium.specs.Granularity.{pick, widthOf, sizeAt, finishAt, deleteAt, header}
 use Rattle.medium.specs.Geometry.{address}
 use Rattle.medium.specs.Operation.{happen, Answer, done, refused, andThen, _>>=_, ask, give, refuse}
-use Rattle.medium.proofs.Runs.{bound}
 use Rattle.medium.specs.Medium.{part, readAt}
+use Rattle.medium.specs.Beside.{Event, Both, beside}
+use Rattle.medium.proofs.Runs.{bound}
 use Rattle.medium.proofs.Bytes.{getD-part}
 use Rattle.medium.proofs.Places.{laid}
+use Rattle.medium.proofs.Beside.{Misses-event, bytes-stay, length-stays}
+use Rattle.medium.proofs.Left.{answered, left, bind-left, bind-events, ask-events}
 use Rattle.objects.specs.declared.types.ObjectType.{ObjectType}
-use Rattle.objects.specs.declared.types.TypeRead.{TypeRead}
-use Rattle.objects.specs.declared.types.TypeRead.the-variants as ty
 use Rattle.objects.specs.declared.state.ObjectDataState.{ObjectDataState}
 use Rattle.objects.specs.declared.state.ObjectDataState.the-variants as data-state
-use Rattle.objects.specs.declared.state.DataStateRead.{DataStateRead}
-use Rattle.objects.specs.declared.state.DataStateRead.the-variants as mark
 use Rattle.objects.specs.declared.state.CompositeObjectState.the-variants as comp
 use Rattle.objects.specs.declared.location.ObjectLocation.{ObjectLocation}
 use Rattle.objects.specs.declared.header.ObjectHeader.{ObjectHeader}
 use Rattle.objects.specs.declared.iterator.ObjectIterator.{ObjectIterator}
-use Rattle.objects.specs.declared.iterator.Next.{Next}
-use Rattle.objects.specs.declared.iterator.Next.the-variants as next
-use Rattle.objects.specs.Types.{rankTo, rankOf, typeOf, pairOf, marksOf, compositeOf, stateIn}
+use Rattle.objects.specs.Types.{rankTo, rankOf, typeOf, pairOf, marksOf, compositeOf, stateIn, TypeSaid, typed, untyped}
 use Rattle.objects.specs.Header.{stateAt, headerAt}
 use Rattle.objects.specs.Info.{found, infoAt}
-use Rattle.objects.specs.Listing.{startOf, nextOf, listBy, listFrom, listing}
+use Rattle.objects.specs.Listing.{startOf, Met, object, freePlace, blockEnd, nextOf, listBy, listFrom, listing}
 use Rattle.objects.proofs.Listing.{next-found, Moves, next-moves}
 use Rattle.objects.proofs.Places.{places}
 use Rattle.blocks.specs.declared.header.BlockHeaderKind.{BlockHeaderKind}
 use Rattle.blocks.specs.declared.header.BlockHeaderKind.the-variants.{Empty, Unknown, Known}
 use Rattle.blocks.specs.declared.record.BlockInfo.{BlockInfo}
-use Rattle.collector.specs.Table.{Event, Both, gc, Pass}
+use Rattle.collector.specs.Table.{Pass}
 use Rattle.collector.specs.Passes.{visitOne, goOn, visiting, deleting, deleteBy, deleteInvalidObjectsInBlock}
 use Rattle.collector.specs.Finished.{Allocated, Broken, Guarded}
-use Rattle.collector.proofs.Events.{Misses-event, bytes-stay, length-stays}
-use Rattle.collector.proofs.Agreeing.{Agree, agree-self, agree-on, info-agree, next-by, found-at}
-use Rattle.collector.proofs.Stores.{visit-each}
+use Rattle.shown.proofs.Agreeing.{Agree, agree-self, agree-on, info-agree, next-by, found-at}
+use Rattle.collector.proofs.Touched.{visit-each}
 use Rattle.collector.proofs.Untouched.{Avoids, avoids-visited, deleting-each, ahead}
 use Rattle.collector.proofs.Marked.{both-read, same-byte, state-sized, parts, next-is}
-use Rattle.collector.proofs.Left.{left, bind-left, bind-events, ask-events, asked}
 use Rattle.collector.proofs.Deleted.{Visit-left, visit-left}
 
-refuse-done : (k : ℕ) (s : Both) → refuse {W = gc} {A = Unit {0}} k s .answer ≡ done tt → ⊥
+refuse-done : (k : ℕ) (s : Both) → refuse {W = beside} {A = Unit {0}} k s .answer ≡ done tt → ⊥
 unfolding ask
 refuse-done k s e = let z : _≡_ {A = ℕ} 0 1 = cc in omega arith
 
 -- ---- the marks FF 00
 
 pair-ff : (x y z w : Bool)
-    → pick x (pick y (mark.Got data-state.Untrusted) (mark.Refused 2)) (pick z (pick y (mark.Got data-state.Valid) (pick w (mark.Got data-state.Deleted) (mark.Refused 2))) (mark.Refused 2)) ≡ mark.Got data-state.Untrusted
+    → pick x (pick y (done data-state.Untrusted) (refused 2)) (pick z (pick y (done data-state.Valid) (pick w (done data-state.Deleted) (refused 2))) (refused 2)) ≡ done data-state.Untrusted
     → x ≡ true
 pair-ff true y z w e = refl
 pair-ff false true true w e = let o : _≡_ {A = ℕ} 0 1 = cc in absurd (omega arith)
@@ -68,13 +63,13 @@ pair-ff false false true false e = let o : _≡_ {A = ℕ} 0 1 = cc in absurd (o
 pair-ff false y false w e = let o : _≡_ {A = ℕ} 0 1 = cc in absurd (omega arith)
 
 -- an unfinished object has the finish mark FF
-unfinished-ff : (k : Granularity) → (k ≡ Bit → ⊥) → (a b : ℕ) → marksOf k a b ≡ mark.Got data-state.Untrusted → a ≡ 255
+unfinished-ff : (k : Granularity) → (k ≡ Bit → ⊥) → (a b : ℕ) → marksOf k a b ≡ done data-state.Untrusted → a ≡ 255
 unfolding marksOf pairOf
 unfinished-ff Bit n a b e = absurd (n refl)
 unfinished-ff Word1 n a b e = eqb-true a 255 (pair-ff (eqb a 255) (eqb b 255) (eqb a 0) (eqb b 0) e)
 unfinished-ff Word4 n a b e = eqb-true a 255 (pair-ff (eqb a 255) (eqb b 255) (eqb a 0) (eqb b 0) e)
 
-lost-marks : (k : Granularity) → (k ≡ Bit → ⊥) → marksOf k 255 0 ≡ mark.Refused 2
+lost-marks : (k : Granularity) → (k ≡ Bit → ⊥) → marksOf k 255 0 ≡ refused 2
 unfolding marksOf pairOf
 lost-marks Bit n = absurd (n refl)
 lost-marks Word1 n = refl
@@ -88,11 +83,11 @@ module _ (g : Geometry) (word : g .granularity ≡ Bit → ⊥) (at : ObjectLoca
   unfolding stateAt stateIn
   state-lost t e = go (readAt g (at .block) (at .offset) (sizeAt (g .granularity)) img) refl e
     where
-      both : (x : TypeRead) (m : DataStateRead) → compositeOf x m ≡ done (comp.Allocated t data-state.Untrusted) → (x ≡ ty.Got t) × (m ≡ mark.Got data-state.Untrusted)
-      both (ty.Got u) (mark.Got c) p = ((cc), (cc))
-      both (ty.Got u) (mark.Refused k) p = let z : _≡_ {A = ℕ} 0 1 = cc in absurd (omega arith)
-      both ty.Free m p = let z : _≡_ {A = ℕ} 0 1 = cc in absurd (omega arith)
-      both (ty.Refused k) m p = let z : _≡_ {A = ℕ} 0 1 = cc in absurd (omega arith)
+      both : (x : Answer TypeSaid) (m : Answer ObjectDataState) → compositeOf x m ≡ done (comp.Allocated t data-state.Untrusted) → (x ≡ done (typed t)) × (m ≡ done data-state.Untrusted)
+      both (done (typed u)) (done c) p = ((cc), (cc))
+      both (done (typed u)) (refused k) p = let z : _≡_ {A = ℕ} 0 1 = cc in absurd (omega arith)
+      both (done untyped) m p = let z : _≡_ {A = ℕ} 0 1 = cc in absurd (omega arith)
+      both (refused k) m p = let z : _≡_ {A = ℕ} 0 1 = cc in absurd (omega arith)
 
       read : List ℕ → List ℕ
       read i = part (address g (at .block) (at .offset)) (sizeAt (g .granularity)) i
@@ -156,19 +151,19 @@ module _ (g : Geometry) (few : g .s ≤ 3) (word : g .granularity ≡ Bit → �
   breaks : (n : ℕ) (i : ObjectIterator) (s : Both) → i .location .block ≡ b → deleting n g b used i s .answer ≡ done tt
       → (deleting n g b used i s .events ≡ []) ⊎ Broken (listFrom n g i (left (deleting n g b used i) s .image) .stop)
   unfolding deleting listFrom
-  breaks zero i s c e = inl (ask-events (λ _. done (tt {0})) s)
+  breaks zero i s c e = inl (ask-events beside (λ _. done (tt {0})) s)
   breaks (suc n) i s c e =
-      let q = asked {W = gc} (λ (x : Both). done (nextOf g i (x .image))) (λ x. visiting g b used x (λ j. deleting n g b used j)) s (nextOf g i (s .image)) refl in
-      rw q (go (nextOf g i (s .image)) refl (rw q at e) (λ j t. breaks n j t))
+      let x = answered {W = beside} (λ (x : Both). nextOf g i (x .image)) (λ x. visiting g b used x (λ j. deleting n g b used j)) s tt e in
+      rw (x .same) (go (x .value) (x .told) (rw (x .same) at e) (λ j t. breaks n j t))
     where
       Tail : Pass (Unit {0}) → Type 0
       Tail o = (o s .events ≡ []) ⊎ Broken (listBy (nextOf g i (left o s .image)) i (λ j. listFrom n g j (left o s .image)) .stop)
 
-      seen : (h : ObjectHeader) (j : ObjectIterator) → nextOf g i (s .image) ≡ next.Object h j → (d : Bool) → visitOne g b used h s .answer ≡ done d
+      seen : (h : ObjectHeader) (j : ObjectIterator) → nextOf g i (s .image) ≡ done (object h j) → (d : Bool) → visitOne g b used h s .answer ≡ done d
           → goOn d (deleting n g b used j) (left (visitOne g b used h) s) .answer ≡ done tt → Visit-left g b used h s d
           → ((t : Both) → deleting n g b used j t .answer ≡ done tt → (deleting n g b used j t .events ≡ []) ⊎ Broken (listFrom n g j (left (deleting n g b used j) t .image) .stop))
           → Tail (visitOne g b used h >>= λ d. goOn d (deleting n g b used j))
-      seen h j p false f r (inl q) more = inl (rw (bind-events (visitOne g b used h) (λ d. goOn d (deleting n g b used j)) s false f, q .0) (ask-events (λ _. done (tt {0})) s))
+      seen h j p false f r (inl q) more = inl (rw (bind-events (visitOne g b used h) (λ d. goOn d (deleting n g b used j)) s false f, q .0) (ask-events beside (λ _. done (tt {0})) s))
       seen h j p false f r (inr q) more = absurd (false≢true (q .1))
       seen h j p true f r (inl q) more = passed (more (left (visitOne g b used h) s) r)
         where
@@ -183,7 +178,7 @@ module _ (g : Geometry) (few : g .s ≤ 3) (word : g .granularity ≡ Bit → �
               let o = laid (g .granularity) (g .s) 0 few in
               let a = next-by g i (left (visitOne g b used h) s .image) (left (deleting n g b used j) (left (visitOne g b used h) s) .image) (w .long)
               (info-agree g (i .location) (i .location .offset + header (g .granularity) (g .s)) _ _ (rw c w) (λ _. omega (arith, o .size-plain)) (λ _. omega (arith, o .size-plain))) in
-              let y : nextOf g i (left (visitOne g b used h) s .image) ≡ nextOf g i (s .image) = ap (λ (es : List Event). nextOf g i (happen gc es s .image)) (q .0) in
+              let y : nextOf g i (left (visitOne g b used h) s .image) ≡ nextOf g i (s .image) = ap (λ (es : List Event). nextOf g i (happen beside es s .image)) (q .0) in
               inr (rw (bind-left (visitOne g b used h) (λ d. goOn d (deleting n g b used j)) s true f, a, y, p) z)
       seen h j p true f r (inr q) more =
           let fd = next-found g i (s .image) h j p in
@@ -201,14 +196,13 @@ module _ (g : Geometry) (few : g .s ≤ 3) (word : g .granularity ≡ Bit → �
           let a = next-is g i (s .image) (left (deleting n g b used j) (left (visitOne g b used h) s) .image) (refused 2) (w .long ∙ length-stays (visitOne g b used h s .events) s) (fd .checked) (fd .fits) u in
           inr (rw (bind-left (visitOne g b used h) (λ d. goOn d (deleting n g b used j)) s true f, a) tt)
 
-      go : (x : Next) → nextOf g i (s .image) ≡ x → visiting g b used x (λ j. deleting n g b used j) s .answer ≡ done tt
+      go : (x : Met) → nextOf g i (s .image) ≡ done x → visiting g b used x (λ j. deleting n g b used j) s .answer ≡ done tt
           → ((j : ObjectIterator) (t : Both) → j .location .block ≡ b → deleting n g b used j t .answer ≡ done tt
           → (deleting n g b used j t .events ≡ []) ⊎ Broken (listFrom n g j (left (deleting n g b used j) t .image) .stop))
           → Tail (visiting g b used x (λ j. deleting n g b used j))
-      go next.Free p r more = inl (ask-events (λ _. done (tt {0})) s)
-      go next.End p r more = inl (ask-events (λ _. done (tt {0})) s)
-      go (next.Refused k) p r more = absurd (refuse-done k s r)
-      go (next.Object h j) p r more =
+      go freePlace p r more = inl (ask-events beside (λ _. done (tt {0})) s)
+      go blockEnd p r more = inl (ask-events beside (λ _. done (tt {0})) s)
+      go (object h j) p r more =
           let x = bound (visitOne g b used h) (λ d. goOn d (deleting n g b used j)) s tt r in
           seen h j p (x .value) (x .first) (x .second) (visit-left g b used h s (x .value) (x .first)) (λ t. more j t (next-moves g i (s .image) h j p .block ∙ c))
 
@@ -223,6 +217,6 @@ block-guards g few word b r s h e = go (r .header .kind) e
     by o (inr z) = inr z
 
     go : (k : BlockHeaderKind) → deleteBy g b r k s .answer ≡ done tt → Guarded (listFrom (g .size) g (startOf g b) (left (deleteBy g b r k) s .image))
-    go Empty q = by (give tt) (inl (ask-events (λ _. done (tt {0})) s))
+    go Empty q = by (give tt) (inl (ask-events beside (λ _. done (tt {0})) s))
     go Unknown q = absurd (refuse-done 2 s q)
     go (Known t) q = by (deleting (g .size) g b (r .«used_bytes») (startOf g b)) (breaks g few word b (r .«used_bytes») (g .size) (startOf g b) s refl q)

@@ -11,35 +11,35 @@ use lib.ListN.{length}
 use lib.Dec.{eqb}
 use borrow.Author.Tests.{eqb-true}
 use Rattle.medium.specs.declared.geometry.Geometry.{Geometry}
+use Rattle.medium.specs.All.{All}
 use Rattle.medium.specs.Granularity.{pick, widthOf, alignOf, sizeAt, deleteAt, header}
 use Rattle.medium.specs.Geometry.{address}
 use Rattle.medium.specs.Units.{unitsOf}
-use Rattle.medium.specs.Operation.{happen, done, refused, Op, ask, refuse, putting}
+use Rattle.medium.specs.Operation.{Answer, happen, done, refused, Op, ask, refuse, putting}
 use Rattle.medium.specs.Medium.{writable, write}
-use Rattle.medium.proofs.Bytes.{Off, Misses, All, store-miss}
+use Rattle.medium.specs.Beside.{Event, Both, beside}
+use Rattle.medium.proofs.Bytes.{Off, Misses, store-miss}
 use Rattle.medium.proofs.Frame.{inner}
 use Rattle.medium.proofs.Places.{width-is, laid}
+use Rattle.medium.proofs.Beside.{Misses-event}
+use Rattle.medium.proofs.Events.{bind-each, ask-each, asked-each}
 use Rattle.objects.specs.declared.location.ObjectLocation.{ObjectLocation}
 use Rattle.objects.specs.declared.header.ObjectHeader.{ObjectHeader}
 use Rattle.objects.specs.declared.header.PayloadSize.the-variants.{Set, Unset}
 use Rattle.objects.specs.declared.iterator.ObjectIterator.{ObjectIterator}
-use Rattle.objects.specs.declared.iterator.Next.{Next}
-use Rattle.objects.specs.declared.iterator.Next.the-variants as next
 use Rattle.objects.specs.Numbers.{bytes, unsetOf}
 use Rattle.objects.specs.Types.{rankOf}
 use Rattle.objects.specs.Header.{payloadSizeOf}
 use Rattle.objects.specs.Info.{spanOf}
-use Rattle.objects.specs.Listing.{startOf, nextOf, Visit, listBy, listFrom, listing}
+use Rattle.objects.specs.Listing.{startOf, Met, object, freePlace, blockEnd, nextOf, Visit, listBy, listFrom, listing}
 use Rattle.objects.proofs.Listing.{next-found, next-moves}
 use Rattle.blocks.specs.declared.header.BlockHeaderKind.{BlockHeaderKind}
 use Rattle.blocks.specs.declared.header.BlockHeaderKind.the-variants.{Empty, Unknown, Known}
 use Rattle.blocks.specs.declared.record.BlockInfo.{BlockInfo}
-use Rattle.collector.specs.Table.{Event, Both, gc}
 use Rattle.collector.specs.Passes.{visitOne, goOn, visiting, deleting, deleteBy, deleteInvalidObjectsInBlock}
-use Rattle.collector.specs.Finished.{Allocated, Finished, Every}
-use Rattle.collector.proofs.Events.{Misses-event, bind-each, ask-each, asked-each}
-use Rattle.collector.proofs.Agreeing.{Agree, agree-self, agree-less, agree-on, next-agree, found-at, found-short}
-use Rattle.collector.proofs.Stores.{Visited, visit-each}
+use Rattle.collector.specs.Finished.{Allocated, Finished}
+use Rattle.shown.proofs.Agreeing.{Agree, agree-self, agree-less, agree-on, next-agree, found-at, found-short}
+use Rattle.collector.proofs.Touched.{Visited, visit-each}
 
 -- ---- a byte that the repair of an object misses
 
@@ -103,57 +103,56 @@ module _ (g : Geometry) (few : g .s ≤ 3) (b used : ℕ) (P : Event → Type 0)
     (ok : (h : ObjectHeader) → h .location .block ≡ b → W (visitOf h) → rankOf (h .state) ≡ 1 → Visited P g b h) where
   visit-agree : (h : ObjectHeader) (i j : ObjectIterator) (s : Both) (img : List ℕ) → h .location ≡ i .location → i .location .block ≡ b
       → i .location .offset + header (g .granularity) (g .s) ≤ j .location .offset → Agree g b (i .location .offset) (g .size) img (s .image)
-      → Agree g b (j .location .offset) (g .size) img (happen gc (visitOne g b used h s .events) s .image)
+      → Agree g b (j .location .offset) (g .size) img (happen beside (visitOne g b used h s .events) s .image)
   visit-agree h i j s img e c m v =
       agree-on g b (j .location .offset) (g .size) img (visitOne g b used h s .events) s
       (agree-less g b (i .location .offset) (g .size) (j .location .offset) (g .size) img (s .image) v (omega arith) (le-refl (g .size)))
       (λ o x y. visit-each (Misses-event (address g b o)) g b used h s (λ _. avoids-visited g few b o h (rw e c) (header-avoids g few o (visitOf h) (rw e (inr (omega arith))))))
 
   pub deleting-each : (n : ℕ) (i : ObjectIterator) (s : Both) (img : List ℕ) → i .location .block ≡ b → Agree g b (i .location .offset) (g .size) img (s .image)
-      → Every W (listFrom n g i img .visits) → Every P (deleting n g b used i s .events)
+      → All W (listFrom n g i img .visits) → All P (deleting n g b used i s .events)
   unfolding deleting listFrom
-  deleting-each zero i s img c v w = ask-each P (λ _. done (tt {0})) s
+  deleting-each zero i s img c v w = ask-each beside P (λ _. done (tt {0})) s
   deleting-each (suc n) i s img c v w =
-      asked-each P (λ (x : Both). done (nextOf g i (x .image))) (λ x. visiting g b used x (λ j. deleting n g b used j)) s
-      (λ x e. let q : nextOf g i (s .image) ≡ x = cc in go x (sym (next-agree g i img (s .image) (rw c v)) ∙ q) w (λ j t. deleting-each n j t img))
+      asked-each beside P (λ (x : Both). nextOf g i (x .image)) (λ x. visiting g b used x (λ j. deleting n g b used j)) s
+      (λ x e. go x (sym (next-agree g i img (s .image) (rw c v)) ∙ e) w (λ j t. deleting-each n j t img))
     where
-      go : (x : Next) → nextOf g i img ≡ x → Every W (listBy (nextOf g i img) i (λ j. listFrom n g j img) .visits)
-          → ((j : ObjectIterator) (t : Both) → j .location .block ≡ b → Agree g b (j .location .offset) (g .size) img (t .image) → Every W (listFrom n g j img .visits) → Every P (deleting n g b used j t .events))
-          → Every P (visiting g b used x (λ j. deleting n g b used j) s .events)
-      go next.Free e p more = ask-each P (λ _. done (tt {0})) s
-      go next.End e p more = ask-each P (λ _. done (tt {0})) s
-      go (next.Refused k) e p more = ask-each P {A = Unit {0}} (λ _. refused k) s
-      go (next.Object h j) e p more =
+      go : (x : Met) → nextOf g i img ≡ done x → All W (listBy (nextOf g i img) i (λ j. listFrom n g j img) .visits)
+          → ((j : ObjectIterator) (t : Both) → j .location .block ≡ b → Agree g b (j .location .offset) (g .size) img (t .image) → All W (listFrom n g j img .visits) → All P (deleting n g b used j t .events))
+          → All P (visiting g b used x (λ j. deleting n g b used j) s .events)
+      go freePlace e p more = ask-each beside P (λ _. done (tt {0})) s
+      go blockEnd e p more = ask-each beside P (λ _. done (tt {0})) s
+      go (object h j) e p more =
           let f = next-found g i img h j e in
           let m = next-moves g i img h j e in
           let l = found-at g (i .location) img h (f .object) in
-          let w : Every W (listBy (next.Object h j) i (λ j. listFrom n g j img) .visits) = rw e at p in
+          let w : All W (listBy (done (object h j)) i (λ j. listFrom n g j img) .visits) = rw e at p in
           let x : W (visitOf h) = subst (λ (z : ObjectLocation). W (record { offset = z .offset; object = h })) (sym l) (w .0) in
-          bind-each P (visitOne g b used h) (λ d. goOn d (deleting n g b used j)) s
+          bind-each beside P (visitOne g b used h) (λ d. goOn d (deleting n g b used j)) s
           (visit-each P g b used h s (ok h (rw l c) x))
           (λ d _. onward d (m .block ∙ c) (visit-agree h i j s img l c (m .forward) v) (w .1))
         where
           onward : (d : Bool) → j .location .block ≡ b
-              → Agree g b (j .location .offset) (g .size) img (happen gc (visitOne g b used h s .events) s .image) → Every W (listFrom n g j img .visits)
-              → Every P (goOn d (deleting n g b used j) (happen gc (visitOne g b used h s .events) s) .events)
-          onward false q a r = ask-each P (λ _. done (tt {0})) (happen gc (visitOne g b used h s .events) s)
-          onward true q a r = more j (happen gc (visitOne g b used h s .events) s) q a r
+              → Agree g b (j .location .offset) (g .size) img (happen beside (visitOne g b used h s .events) s .image) → All W (listFrom n g j img .visits)
+              → All P (goOn d (deleting n g b used j) (happen beside (visitOne g b used h s .events) s) .events)
+          onward false q a r = ask-each beside P (λ _. done (tt {0})) (happen beside (visitOne g b used h s .events) s)
+          onward true q a r = more j (happen beside (visitOne g b used h s .events) s) q a r
 
 -- in a block
 module _ (g : Geometry) (few : g .s ≤ 3) (b : ℕ) (P : Event → Type 0) (W : Visit → Type 0)
     (ok : (h : ObjectHeader) → h .location .block ≡ b → W (visitOf h) → rankOf (h .state) ≡ 1 → Visited P g b h) where
-  pub first-each : (r : BlockInfo) (s : Both) → Every W (listing g b (s .image) .visits) → Every P (deleteInvalidObjectsInBlock g b r s .events)
+  pub first-each : (r : BlockInfo) (s : Both) → All W (listing g b (s .image) .visits) → All P (deleteInvalidObjectsInBlock g b r s .events)
   unfolding deleteInvalidObjectsInBlock listing
   first-each r s w = go (r .header .kind)
     where
-      go : (k : BlockHeaderKind) → Every P (deleteBy g b r k s .events)
-      go Empty = ask-each P (λ _. done (tt {0})) s
-      go Unknown = ask-each P {A = Unit {0}} (λ _. refused 2) s
+      go : (k : BlockHeaderKind) → All P (deleteBy g b r k s .events)
+      go Empty = ask-each beside P (λ _. done (tt {0})) s
+      go Unknown = ask-each beside P {A = Unit {0}} (λ _. refused 2) s
       go (Known t) = deleting-each g few b (r .«used_bytes») P W ok (g .size) (startOf g b) s (s .image) refl (agree-self g b _ (g .size) (s .image)) w
 
 -- a byte of the block that avoids each unfinished object
 abbrev pub Outside : Geometry → ℕ → List Visit → Type 0
-Outside g o vs = Every (λ v. Allocated v → Avoids g o v) vs
+Outside g o vs = All (λ v. Allocated v → Avoids g o v) vs
 
 -- ---- the objects of a listing do not overlap
 
@@ -163,25 +162,25 @@ unfolding listFrom
 ahead zero g o i img h = tt
 ahead (suc n) g o i img h = go (nextOf g i img) refl (λ j k. ahead n g o j img k)
   where
-    go : (x : Next) → nextOf g i img ≡ x → ((j : ObjectIterator) → o < j .location .offset → Outside g o (listFrom n g j img .visits))
+    go : (x : Answer Met) → nextOf g i img ≡ x → ((j : ObjectIterator) → o < j .location .offset → Outside g o (listFrom n g j img .visits))
         → Outside g o (listBy x i (λ j. listFrom n g j img) .visits)
-    go (next.Object v j) e more = let m = next-moves g i img v j e in ((λ _. header-avoids g (found-short g i img v j e) o (record { offset = i .location .offset; object = v }) (inl h)), more j (omega (arith, m .forward)))
-    go next.Free e more = tt
-    go next.End e more = tt
-    go (next.Refused k) e more = tt
+    go (done (object v j)) e more = let m = next-moves g i img v j e in ((λ _. header-avoids g (found-short g i img v j e) o (record { offset = i .location .offset; object = v }) (inl h)), more j (omega (arith, m .forward)))
+    go (done freePlace) e more = tt
+    go (done blockEnd) e more = tt
+    go (refused k) e more = tt
 
 finished-ahead : (n : ℕ) (g : Geometry) (o : ℕ) (i : ObjectIterator) (img : List ℕ) → Finished g o (listFrom n g i img .visits) → i .location .offset ≤ o
 unfolding listFrom
 finished-ahead zero g o i img h = absurd h
 finished-ahead (suc n) g o i img h = go (nextOf g i img) refl h (λ j k. finished-ahead n g o j img k)
   where
-    go : (x : Next) → nextOf g i img ≡ x → Finished g o (listBy x i (λ j. listFrom n g j img) .visits)
+    go : (x : Answer Met) → nextOf g i img ≡ x → Finished g o (listBy x i (λ j. listFrom n g j img) .visits)
         → ((j : ObjectIterator) → Finished g o (listFrom n g j img .visits) → j .location .offset ≤ o) → i .location .offset ≤ o
-    go (next.Object v j) e (inl t) more = t .1
-    go (next.Object v j) e (inr r) more = let m = next-moves g i img v j e in let k = more j r in omega (arith, m .forward)
-    go next.Free e r more = absurd r
-    go next.End e r more = absurd r
-    go (next.Refused k) e r more = absurd r
+    go (done (object v j)) e (inl t) more = t .1
+    go (done (object v j)) e (inr r) more = let m = next-moves g i img v j e in let k = more j r in omega (arith, m .forward)
+    go (done freePlace) e r more = absurd r
+    go (done blockEnd) e r more = absurd r
+    go (refused k) e r more = absurd r
 
 -- a byte of a finished one is outside the headers of the unfinished
 pub finished-outside : (n : ℕ) (g : Geometry) (o : ℕ) (i : ObjectIterator) (img : List ℕ) → Finished g o (listFrom n g i img .visits) → Outside g o (listFrom n g i img .visits)
@@ -189,19 +188,19 @@ unfolding listFrom
 finished-outside zero g o i img h = tt
 finished-outside (suc n) g o i img h = go (nextOf g i img) refl h (λ j k. finished-outside n g o j img k)
   where
-    go : (x : Next) → nextOf g i img ≡ x → Finished g o (listBy x i (λ j. listFrom n g j img) .visits)
+    go : (x : Answer Met) → nextOf g i img ≡ x → Finished g o (listBy x i (λ j. listFrom n g j img) .visits)
         → ((j : ObjectIterator) → Finished g o (listFrom n g j img .visits) → Outside g o (listFrom n g j img .visits)) → Outside g o (listBy x i (λ j. listFrom n g j img) .visits)
-    go (next.Object v j) e (inl t) more =
+    go (done (object v j)) e (inl t) more =
         let f = next-found g i img v j e in
         let p : j .location .offset ≡ i .location .offset + spanOf (g .granularity) (g .s) v = ap (λ (x : ObjectIterator). x .location .offset) (f .then) in
         ((λ one. absurd (omega (arith, t .0, one))), ahead n g o j img (omega (arith, t .2, p)))
-    go (next.Object v j) e (inr r) more =
+    go (done (object v j)) e (inr r) more =
         let m = next-moves g i img v j e in
         let k = finished-ahead n g o j img r in
         ((λ _. header-avoids g (found-short g i img v j e) o (record { offset = i .location .offset; object = v }) (inr (omega (arith, m .forward)))), more j r)
-    go next.Free e r more = tt
-    go next.End e r more = tt
-    go (next.Refused k) e r more = tt
+    go (done freePlace) e r more = tt
+    go (done blockEnd) e r more = tt
+    go (refused k) e r more = tt
 
 pub finished-apart : (g : Geometry) (b o : ℕ) (img : List ℕ) → Finished g o (listing g b img .visits) → Outside g o (listing g b img .visits)
 unfolding listing

@@ -4,21 +4,23 @@
 use mathlib.Core.Path.{_≡_}
 use mathlib.Core.Logic.{_⊎_}
 use mathlib.Core.List.{List, [], _∷_}
-use Prim.Native.Nat.{ℕ, _+_, _*_, _≤_, _<_}
+use Prim.Native.Nat.{ℕ, _+_, _≤_, _<_}
 use lib.ListN.{getD}
 use Rattle.medium.specs.declared.granularity.Granularity.the-variants.{Bit}
 use Rattle.medium.specs.declared.geometry.Geometry.{Geometry}
 use Rattle.medium.specs.declared.fuse.Fuse.{Fuse}
+use Rattle.medium.specs.All.{All}
 use Rattle.medium.specs.Geometry.{address}
 use Rattle.medium.specs.Units.{programmed, erased}
 use Rattle.medium.specs.Operation.{run}
+use Rattle.medium.specs.Beside.{Event, unit, field, Both}
 use Rattle.objects.specs.Numbers.{unsetOf}
 use Rattle.objects.specs.Types.{rankOf}
 use Rattle.objects.specs.Info.{spanOf}
 use Rattle.objects.specs.Listing.{Visit, Stop, end, free, broken, Listing, listing}
-use Rattle.collector.specs.declared.passes.PassKind.{PassKind}
-use Rattle.collector.specs.declared.passes.PassKind.the-variants as passes
-use Rattle.collector.specs.Table.{Event, unit, field, Both}
+use Rattle.collector.specs.declared.sweep.PassKind.{PassKind}
+use Rattle.collector.specs.declared.sweep.PassKind.the-variants as passes
+use Rattle.collector.specs.Table.{recordLength, wordAt}
 use Rattle.collector.specs.Passes.{stepOf, pass, deleteInvalidObjects, collect}
 
 -- ---- what a listing shows
@@ -28,10 +30,6 @@ Allocated v = rankOf (v .object .state) ≡ 1
 
 abbrev pub Finalized : Visit → Type 0
 Finalized v = rankOf (v .object .state) ≡ 2
-
-abbrev pub Every : {A : Type 0} → (A → Type 0) → List A → Type 0
-Every P [] = Unit {0}
-Every P (x ∷ xs) = P x × Every P xs
 
 -- a finished object is among the visits
 abbrev pub Shows : List Visit → Type 0
@@ -63,11 +61,11 @@ Guarded l = Shows (l .visits) ⊎ Broken (l .stop)
 abbrev pub byteAt : Geometry → ℕ → ℕ → Both → ℕ
 byteAt g b o s = getD (s .image) (address g b o) 0
 
--- every byte of a block, what a listing shows of it, and its four numbers in the table
-pub record Kept (g : Geometry) (b : ℕ) (s t : Both) : Type 0 where
+-- every byte of a block, what a listing shows of it, and its record in the table
+pub record BlockKept (g : Geometry) (b : ℕ) (s t : Both) : Type 0 where
   pub bytes : (o : ℕ) → o < g .size → byteAt g b o t ≡ byteAt g b o s
   pub listed : listing g b (t .image) ≡ listing g b (s .image)
-  pub fields : (i : ℕ) → i < 4 → getD (t .table) (4 * b + i) 0 ≡ getD (s .table) (4 * b + i) 0
+  pub fields : (i : ℕ) → i < recordLength → wordAt (t .table) b i ≡ wordAt (s .table) b i
 
 -- ---- events
 
@@ -95,11 +93,11 @@ Formats passes.EraseFullFinishedBlocks = Unit {0}
 unfoldable pub PassKeepsBlock : Type 0
 PassKeepsBlock =
     (k : PassKind) → Formats k → (f : Fuse) (g : Geometry) (s : Both) (b : ℕ) → Guarded (listing g b (s .image))
-    → Kept g b s (run f (pass (stepOf k) g) s .state)
+    → BlockKept g b s (run f (pass (stepOf k) g) s .state)
 
 -- the first pass formats nothing
 unfoldable pub FirstNeverErases : Type 0
-FirstNeverErases = (g : Geometry) (s : Both) → Every Programs (deleteInvalidObjects g s .events)
+FirstNeverErases = (g : Geometry) (s : Both) → All Programs (deleteInvalidObjects g s .events)
 
 -- ---- a whole collection, at any fuse and in every end
 
@@ -114,5 +112,5 @@ RunSpares =
 -- a block in which a finished object is shown and no unfinished one is left whole
 unfoldable pub RunKeepsBlock : Type 0
 RunKeepsBlock =
-    (f : Fuse) (g : Geometry) (s : Both) (b : ℕ) → Every (λ v. Allocated v → ⊥) (listing g b (s .image) .visits)
-    → Shows (listing g b (s .image) .visits) → Kept g b s (run f (collect g) s .state)
+    (f : Fuse) (g : Geometry) (s : Both) (b : ℕ) → All (λ v. Allocated v → ⊥) (listing g b (s .image) .visits)
+    → Shows (listing g b (s .image) .visits) → BlockKept g b s (run f (collect g) s .state)

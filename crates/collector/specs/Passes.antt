@@ -6,29 +6,36 @@ use mathlib.Core.Bool.{Bool, true, false}
 use lib.ListN.{length}
 use lib.Dec.{leb, ltb, eqb}
 use Rattle.medium.specs.declared.geometry.Geometry.{Geometry}
+use Rattle.medium.specs.declared.fuse.Fuse.{Fuse}
+use Rattle.medium.specs.declared.fuse.Stored.{Stored}
+use Rattle.medium.specs.declared.fuse.Stored.the-variants as stored
 use Rattle.medium.specs.Granularity.{pick, header}
 use Rattle.medium.specs.Operation.{Answer, done, refused, Op, _>>=_, _>>_, ask, give, refuse, test}
+use Rattle.medium.specs.Beside.{onImage}
 use Rattle.objects.specs.declared.state.ObjectState.the-variants as state
 use Rattle.objects.specs.declared.header.ObjectHeader.{ObjectHeader}
 use Rattle.objects.specs.declared.header.PayloadSize.{PayloadSize}
 use Rattle.objects.specs.declared.header.PayloadSize.the-variants.{Set, Unset}
 use Rattle.objects.specs.declared.iterator.ObjectIterator.{ObjectIterator}
-use Rattle.objects.specs.declared.iterator.Next.{Next}
-use Rattle.objects.specs.declared.iterator.Next.the-variants as next
 use Rattle.objects.specs.Types.{rankOf}
 use Rattle.objects.specs.Header.{payloadSizeOf, setPayloadSize, updateState}
-use Rattle.objects.specs.Listing.{startOf, nextOf, Visit, Stop, Listing, listing}
+use Rattle.objects.specs.Listing.{startOf, Met, object, freePlace, blockEnd, nextOf, Visit, Stop, Listing, listing}
 use Rattle.blocks.specs.declared.header.BlockHeaderKind.{BlockHeaderKind}
 use Rattle.blocks.specs.declared.header.BlockHeaderKind.the-variants.{Empty, Unknown, Known}
 use Rattle.blocks.specs.declared.record.BlockInfo.{BlockInfo}
 use Rattle.blocks.specs.Format.{formatBlock}
 use Rattle.blocks.specs.Record.{erasedRecord}
 use Rattle.blocks.specs.Scan.{unlessBroken, isAllocated}
-use Rattle.collector.specs.declared.passes.Finding.{Finding}
-use Rattle.collector.specs.declared.passes.Finding.the-variants as finding
-use Rattle.collector.specs.declared.passes.PassKind.{PassKind}
-use Rattle.collector.specs.declared.passes.PassKind.the-variants as passes
-use Rattle.collector.specs.Table.{Pass, onImage, recordAt, storing, allowing, collectable}
+use Rattle.collector.specs.declared.erasing.Finding.{Finding}
+use Rattle.collector.specs.declared.erasing.Finding.the-variants as finding
+use Rattle.collector.specs.declared.sweep.PassKind.{PassKind}
+use Rattle.collector.specs.declared.sweep.PassKind.the-variants as passes
+use Rattle.collector.specs.Table.{Pass, recordAt, storing, allowing, collectable}
+
+-- an answer that stores nothing, beside the fuse as it was
+abbrev pub unstored : Answer (Unit {0}) → Fuse → Stored
+unstored (done _) f = stored.Done f
+unstored (refused n) f = stored.Refused n f
 
 -- ---- the first pass: an unfinished object gets its size from the used bytes and is deleted, or is left where its size says the same
 
@@ -69,17 +76,16 @@ abbrev pub goOn : Bool → Pass (Unit {0}) → Pass (Unit {0})
 goOn true more = more
 goOn false more = give tt
 
-abbrev pub visiting : Geometry → ℕ → ℕ → Next → (ObjectIterator → Pass (Unit {0})) → Pass (Unit {0})
-visiting g b used (next.Object h j) more = visitOne g b used h >>= λ d. goOn d (more j)
-visiting g b used next.Free more = give tt
-visiting g b used next.End more = give tt
-visiting g b used (next.Refused n) more = refuse n
+abbrev pub visiting : Geometry → ℕ → ℕ → Met → (ObjectIterator → Pass (Unit {0})) → Pass (Unit {0})
+visiting g b used (object h j) more = visitOne g b used h >>= λ d. goOn d (more j)
+visiting g b used freePlace more = give tt
+visiting g b used blockEnd more = give tt
 
 -- with at most n visits; each next object is read off the image as the ones before it left it
 unfoldable pub deleting : ℕ → Geometry → ℕ → ℕ → ObjectIterator → Pass (Unit {0})
 deleting zero g b used i = give tt
 deleting (suc n) g b used i = do
-  x ← ask (λ s. done (nextOf g i (s .image)))
+  x ← ask (λ s. nextOf g i (s .image))
   visiting g b used x (λ j. deleting n g b used j)
 
 abbrev pub deleteBy : Geometry → ℕ → BlockInfo → BlockHeaderKind → Pass (Unit {0})

@@ -12,6 +12,7 @@ use Rattle.medium.specs.declared.fuse.Fuse.the-variants.{Absent, Units}
 use Rattle.medium.specs.Geometry.{geometryOk, admit}
 use Rattle.medium.specs.Operation.{Answer, done, refused, _>>=_, ask, test, putting, run, numberOf}
 use Rattle.medium.specs.Medium.{readable, writable, erasable, readAt, write, erase}
+use Rattle.medium.specs.Beside.{both, onImage}
 use Rattle.objects.specs.Types.{typeOf, markOf, pairOf, marksOf, stateIn}
 use Rattle.objects.specs.Header.{stateAt, sizedAt, headerAt, payloadSizeOf, payloadOf, marking, setState, staying, updateState, sizableOf, setPayloadSize}
 use Rattle.objects.specs.Info.{infoAt, totalOf}
@@ -22,7 +23,7 @@ use Rattle.blocks.specs.Format.{dataEmptyAt, again, planKnown, planOf, planAt, 
 use Rattle.blocks.specs.Format as format
 use Rattle.blocks.specs.Record.{kindOf, infoOf}
 use Rattle.blocks.specs.Scan.{scanUnknown, scanBlock}
-use Rattle.collector.specs.Table.{both, Pass, onImage, recordAt, storing, allowing, possibleFrom, collectable}
+use Rattle.collector.specs.Table.{Pass, recordAt, storing, allowing, possibleFrom, collectable}
 use Rattle.collector.specs.Passes.{repairBy, repairing, repaired, visitOne, deleting, deleteInvalidObjectsInBlock, wornOut, formatting, renewing, erasing, eraseInvalidFinishedBlock, eraseFullFinishedBlock, blockStep, sweep, pass, deleteInvalidObjects, eraseInvalidFinishedBlocks, eraseFullFinishedBlocks, collect}
 
 abbrev same : List ℕ → List ℕ → Bool

@@ -3,9 +3,9 @@ use mathlib.Core.Path.{_≡_}
 use Prim.Native.Nat.{ℕ, _<_}
 use native.Mathlib.Omega.{arith}
 use borrow.Author.Tests.{ne-eqb}
-use Rattle.objects.specs.declared.types.TypeRead.the-variants as ty
+use Rattle.medium.specs.Operation.{refused}
 use Rattle.objects.specs.Types.{typeOf}
 
-pub type-high : (kind : ℕ) → 255 < kind → typeOf kind ≡ ty.Refused 2
+pub type-high : (kind : ℕ) → 255 < kind → typeOf kind ≡ refused 2
 unfolding typeOf
 type-high kind h = simp (ne-eqb kind 0x8F (λ e. omega arith), ne-eqb kind 0x8E (λ e. omega arith), ne-eqb kind 0x8D (λ e. omega arith), ne-eqb kind 0xFF (λ e. omega arith))

@@ -1,8 +1,6 @@
 -- What crosses between C and the library, said once for every function.
 use mathlib.Core.Bool.{Bool, true, false}
 use Prim.Native.Nat.{ℕ}
-use Rattle.medium.specs.declared.granularity.GranularityRead.{GranularityRead}
-use Rattle.medium.specs.declared.granularity.GranularityRead.the-variants as granularity
 use Rattle.medium.specs.declared.geometry.Geometry.{Geometry}
 use Rattle.medium.specs.declared.fuse.Fuse.{Fuse}
 use Rattle.medium.specs.declared.fuse.Fuse.the-variants.{Absent, Units}
@@ -15,13 +13,9 @@ use Rattle.crossing.specs.declared.call.GeometryRead.the-variants as geo
 
 -- ---- in: a geometry, and a fuse
 
-abbrev pub geometryWith : GranularityRead → ℕ → ℕ → ℕ → ℕ → Answer Geometry
-geometryWith (granularity.Got k) s c size count = done (record { granularity = k; s = s; c = c; size = size; count = count })
-geometryWith (granularity.Refused n) s c size count = refused n
-
 -- 6 for a granularity byte that names none
 unfoldable pub geometryOf : ℕ → ℕ → ℕ → ℕ → ℕ → Answer Geometry
-geometryOf b s c size count = geometryWith (granularityOf b) s c size count
+geometryOf b s c size count = andThen (granularityOf b) (λ k. done (record { granularity = k; s = s; c = c; size = size; count = count }))
 
 -- of a call with no image: 6 also for a rule that is broken
 unfoldable pub geometryAlone : ℕ → ℕ → ℕ → ℕ → ℕ → Answer Geometry

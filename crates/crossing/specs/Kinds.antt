@@ -2,9 +2,7 @@
 use Prim.Native.Nat.{ℕ}
 use Rattle.medium.specs.Operation.{Answer, done, refused, numberOf}
 use Rattle.objects.specs.declared.types.ObjectType.{ObjectType}
-use Rattle.objects.specs.declared.types.TypeRead.{TypeRead}
-use Rattle.objects.specs.declared.types.TypeRead.the-variants as ty
-use Rattle.objects.specs.Types.{typeOf}
+use Rattle.objects.specs.Types.{TypeSaid, typed, untyped, typeOf}
 use Rattle.crossing.specs.declared.kinds.ObjectTypeRead.{ObjectTypeRead}
 use Rattle.crossing.specs.declared.kinds.ObjectTypeRead.the-variants as type
 
@@ -15,10 +13,10 @@ objectTypeAnswer (type.Refused n) = refused n
 abbrev pub objectTypeNumber : ObjectTypeRead → ℕ
 objectTypeNumber r = numberOf (objectTypeAnswer r)
 
-abbrev pub objectTypeBy : TypeRead → Answer ObjectType
-objectTypeBy (ty.Got t) = done t
-objectTypeBy ty.Free = refused 4
-objectTypeBy (ty.Refused n) = refused 4
+abbrev pub objectTypeBy : Answer TypeSaid → Answer ObjectType
+objectTypeBy (done (typed t)) = done t
+objectTypeBy (done untyped) = refused 4
+objectTypeBy (refused n) = refused 4
 
 unfoldable pub objectTypeOf : ℕ → Answer ObjectType
 objectTypeOf b = objectTypeBy (typeOf b)

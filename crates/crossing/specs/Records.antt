@@ -12,7 +12,8 @@ use Rattle.blocks.specs.declared.header.BlockType.the-variants.{Metadata, Data,
 use Rattle.blocks.specs.declared.header.BlockHeader.{BlockHeader}
 use Rattle.blocks.specs.declared.record.BlockInfo.{BlockInfo}
 use Rattle.blocks.specs.BlockHeader.{kindNumber}
-use Rattle.blocks.specs.Record.{allowNumber, infoOf}
+use Rattle.blocks.specs.Record.{infoOf}
+pub use Rattle.blocks.specs.Record.{recordNumbers}
 use Rattle.crossing.specs.declared.records.BlockTypeRead.{BlockTypeRead}
 use Rattle.crossing.specs.declared.records.BlockTypeRead.the-variants as type
 
@@ -40,9 +41,6 @@ blockHeaderNumbers h = kindNumber (h .kind) ∷ h .«erase_count» ∷ []
 
 abbrev pub recordOf : List ℕ → Answer BlockInfo
 recordOf ns = infoOf (getD ns 0 0) (getD ns 1 0) (getD ns 2 0) (getD ns 3 0)
-
-abbrev pub recordNumbers : BlockInfo → List ℕ
-recordNumbers r = kindNumber (r .header .kind) ∷ r .header .«erase_count» ∷ r .«used_bytes» ∷ allowNumber (r .«allow_alloc») ∷ []
 
 -- ---- yes or no
 

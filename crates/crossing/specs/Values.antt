@@ -7,8 +7,6 @@ use lib.Dec.{eqb}
 use Rattle.medium.specs.Granularity.{pick}
 use Rattle.medium.specs.Operation.{Answer, done, refused, andThen, orRefuse, numberOf}
 use Rattle.objects.specs.declared.types.ObjectType.{ObjectType}
-use Rattle.objects.specs.declared.types.TypeRead.{TypeRead}
-use Rattle.objects.specs.declared.types.TypeRead.the-variants as ty
 use Rattle.objects.specs.declared.state.ObjectDataState.the-variants.{Untrusted, Valid, Deleted}
 use Rattle.objects.specs.declared.state.CompositeObjectState.{CompositeObjectState}
 use Rattle.objects.specs.declared.state.CompositeObjectState.the-variants as comp
@@ -19,7 +17,7 @@ use Rattle.objects.specs.declared.header.ObjectHeader.{ObjectHeader}
 use Rattle.objects.specs.declared.reader.ObjectReader.{ObjectReader}
 use Rattle.objects.specs.declared.metadata.MetadataObjectHeader.{MetadataObjectHeader}
 use Rattle.objects.specs.declared.iterator.ObjectIterator.{ObjectIterator}
-use Rattle.objects.specs.Types.{typeByte, typeOf, rankOf}
+use Rattle.objects.specs.Types.{typeByte, TypeSaid, typed, untyped, typeOf, rankOf}
 use Rattle.objects.specs.Reader.{possible}
 use Rattle.objects.specs.Listing.{placed}
 use Rattle.crossing.specs.declared.values.TargetRead.{TargetRead}
@@ -47,10 +45,10 @@ dataStateOf t n =
     (pick (eqb n 2) (done (comp.Allocated t Valid))
     (pick (eqb n 3) (done (comp.Allocated t Deleted)) (refused 4)))
 
-abbrev pub stateBy : TypeRead → ℕ → Answer CompositeObjectState
-stateBy (ty.Got t) n = dataStateOf t n
-stateBy ty.Free n = pick (eqb n 0) (done comp.Free) (refused 4)
-stateBy (ty.Refused k) n = refused 4
+abbrev pub stateBy : Answer TypeSaid → ℕ → Answer CompositeObjectState
+stateBy (done (typed t)) n = dataStateOf t n
+stateBy (done untyped) n = pick (eqb n 0) (done comp.Free) (refused 4)
+stateBy (refused k) n = refused 4
 
 -- type FF with state 0, or one of the three types with another
 unfoldable pub stateOf : ℕ → ℕ → Answer CompositeObjectState

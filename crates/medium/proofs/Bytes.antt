@@ -8,6 +8,7 @@ use native.Mathlib.Omega.{arith}
 use lib.ListN.{length, take, drop, getD, replicate, length-append, length-replicate, length-take, length-drop, take-append-drop, getD-replicate, List·getD-append}
 use lib.Seq.{getD-append-add, getD-take, getD-drop, ext-getD, take-take, take-nil, length-take-le}
 use lib.Bits.{bitAnd, and-mask, and-comm}
+use Rattle.medium.specs.All.{All}
 use Rattle.medium.specs.Granularity.{unitsIn}
 use Rattle.medium.specs.Units.{FlashUnit, programmed, erased, over, program, blank, under, step, padded, words, unitsOf}
 use Rattle.medium.specs.Operation.{apply}
@@ -166,19 +167,14 @@ abbrev pub Misses : ℕ → FlashUnit → Type 0
 Misses j (programmed a bs) = Off a (length bs) j
 Misses j (erased a n) = Off a n j
 
--- every unit of a list is so
-abbrev pub All : (FlashUnit → Type 0) → List FlashUnit → Type 0
-All P [] = Unit {0}
-All P (u ∷ us) = P u × All P us
-
-module _ (P : FlashUnit → Type 0) where
+module _ {A : Type 0} (P : A → Type 0) where
   -- of two lists, so of both
-  pub All-append : (us vs : List FlashUnit) → All P us → All P vs → All P (us ++ vs)
+  pub All-append : (us vs : List A) → All P us → All P vs → All P (us ++ vs)
   All-append [] vs h k = k
   All-append (u ∷ us) vs h k = (h .0, All-append us vs (h .1) k)
 
   -- of a list, so of its first
-  pub All-take : (n : ℕ) (us : List FlashUnit) → All P us → All P (take n us)
+  pub All-take : (n : ℕ) (us : List A) → All P us → All P (take n us)
   All-take zero us h = tt
   All-take (suc n) [] h = tt
   All-take (suc n) (u ∷ us) h = (h .0, All-take n us (h .1))

@@ -9,6 +9,7 @@ use lib.Bits.{bitAnd}
 use lib.Dec.{ltb, leb}
 use mathlib.Core.Bool.{_&&_}
 use borrow.Author.Tests.{lt-ltb, le-leb}
+use Rattle.medium.specs.All.{All}
 use Rattle.medium.specs.declared.fuse.Fuse.the-variants.{Absent}
 use Rattle.medium.specs.declared.geometry.Geometry.{Geometry}
 use Rattle.medium.specs.Granularity.{pick, widthOf}
@@ -16,7 +17,7 @@ use Rattle.medium.specs.Geometry.{address, checkOf}
 use Rattle.medium.specs.Units.{FlashUnit, blank, under, unitsOf}
 use Rattle.medium.specs.Operation.{apply, done, putting, run}
 use Rattle.medium.specs.Medium.{part, readable, writable, readAt, write}
-use Rattle.medium.proofs.Bytes.{ff-and, fits-up, Misses, All, stored, length-apply, length-erased, part-is, getD-part}
+use Rattle.medium.proofs.Bytes.{ff-and, fits-up, Misses, stored, length-apply, length-erased, part-is, getD-part}
 use Rattle.medium.proofs.Padding.{AreBytes}
 use Rattle.medium.proofs.Places.{width-is}
 use Rattle.medium.proofs.Checks.{write-at, admit-pass, check-of-write}

@@ -9,6 +9,7 @@ use native.Mathlib.Omega.{arith}
 use lib.ListN.{length, take, getD}
 use lib.Dec.{leb, eqb}
 use borrow.Author.Tests.{eqb-true}
+use Rattle.medium.specs.All.{All}
 use Rattle.medium.specs.declared.fuse.Fuse.{Fuse}
 use Rattle.medium.specs.declared.fuse.Fuse.the-variants.{Absent, Units}
 use Rattle.medium.specs.declared.geometry.Geometry.{Geometry}
@@ -18,7 +19,7 @@ use Rattle.medium.specs.Units.{FlashUnit, erased, unitsOf}
 use Rattle.medium.specs.Operation.{flash, apply, cost, Op, ask, putting, cutBy, run}
 use Rattle.medium.specs.Medium.{part, writable, erasable, write, erase}
 use Rattle.medium.proofs.Runs.{prefix-flash, leb-is}
-use Rattle.medium.proofs.Bytes.{Off, Misses, All, All-take, frame, store-miss, length-apply, part-is, getD-part, length-part}
+use Rattle.medium.proofs.Bytes.{Off, Misses, All-take, frame, store-miss, length-apply, part-is, getD-part, length-part}
 use Rattle.medium.proofs.Places.{width-is}
 use Rattle.medium.proofs.Checks.{write-at}
 

@@ -5,6 +5,9 @@ pub mod Padding
 pub mod Erased
 pub mod Frame
 pub mod Split
+pub mod Left
+pub mod Events
+pub mod Beside
 pub mod Places
 pub mod Checks
 pub mod Ranges

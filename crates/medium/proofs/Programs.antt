@@ -8,11 +8,12 @@ use native.Mathlib.Omega.{arith}
 use lib.ListN.{length, take, drop, getD, take-append-drop}
 use lib.Seq.{take-take, take-all, length-take-le, getD-take}
 use lib.Bits.{bitAnd, and-step, and-self, and-comm}
+use Rattle.medium.specs.All.{All}
 use Rattle.medium.specs.Granularity.{unitsIn}
 use Rattle.medium.specs.Units.{FlashUnit, programmed, erased, over, program, padded, words, unitsOf}
 use Rattle.medium.specs.Operation.{apply}
 use Rattle.medium.proofs.Runs.{apply-append, leb-is}
-use Rattle.medium.proofs.Bytes.{and-ff, ff-and, Off, All, All-take, frame, store-miss, store-whole, program-off, program-at, length-padded, getD-padded, getD-pad, words-cut, length-units, stored}
+use Rattle.medium.proofs.Bytes.{and-ff, ff-and, Off, All-take, frame, store-miss, store-whole, program-off, program-at, length-padded, getD-padded, getD-pad, words-cut, length-units, stored}
 
 -- ---- AND
 

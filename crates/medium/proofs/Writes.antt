@@ -10,13 +10,14 @@ use lib.ListN.{length, getD, length-append}
 use lib.Dec.{leb, ltb, eqb}
 use lib.Bits.{bitAnd}
 use borrow.Author.Tests.{eqb-true, le-leb, lt-ltb, eq-eqb}
+use Rattle.medium.specs.All.{All}
 use Rattle.medium.specs.declared.geometry.Geometry.{Geometry}
 use Rattle.medium.specs.Granularity.{pick, widthOf, unitsIn, alignOf}
 use Rattle.medium.specs.Geometry.{admit, checkOf, address}
 use Rattle.medium.specs.Units.{FlashUnit, programmed, erased, unitsOf}
 use Rattle.medium.specs.Operation.{apply, done, Op, _>>=_, ask, refuse, putting}
 use Rattle.medium.specs.Medium.{unitsAt, writable, erasable, write, erase}
-use Rattle.medium.proofs.Bytes.{Off, Misses, All, store-miss, length-apply, stored, fits-up}
+use Rattle.medium.proofs.Bytes.{Off, Misses, store-miss, length-apply, stored, fits-up}
 use Rattle.medium.proofs.Places.{width-is}
 use Rattle.medium.proofs.Checks.{admit-pass, write-at}
 use Rattle.medium.proofs.Split.{units-split, units-even, units-more, none-stored}

@@ -2,6 +2,7 @@
 use Prim.Native.Nat.{ℕ, _+_, _-_, _*_, _/_}
 use mathlib.Core.Bool.{Bool, true, false}
 use lib.Dec.{eqb}
+use Rattle.medium.specs.Answer.{Answer, done, refused}
 use Rattle.medium.specs.declared.granularity.Granularity.{Granularity}
 use Rattle.medium.specs.declared.granularity.Granularity.the-variants.{Bit, Word1, Word4}
 use Rattle.medium.specs.declared.granularity.GranularityRead.{GranularityRead}
@@ -33,8 +34,12 @@ byteOf Bit = 0
 byteOf Word1 = 1
 byteOf Word4 = 4
 
-unfoldable pub granularityOf : ℕ → GranularityRead
-granularityOf b = pick (eqb b 0) (read.Got Bit) (pick (eqb b 1) (read.Got Word1) (pick (eqb b 4) (read.Got Word4) (read.Refused 6)))
+unfoldable pub granularityOf : ℕ → Answer Granularity
+granularityOf b = pick (eqb b 0) (done Bit) (pick (eqb b 1) (done Word1) (pick (eqb b 4) (done Word4) (refused 6)))
+
+abbrev pub granularityAnswer : GranularityRead → Answer Granularity
+granularityAnswer (read.Got k) = done k
+granularityAnswer (read.Refused n) = refused n
 
 abbrev pub granularityNumber : GranularityRead → ℕ
 granularityNumber (read.Got k) = 0

@@ -1,8 +1,11 @@
+pub mod All
+pub mod Answer
 pub mod Granularity
 pub mod Geometry
 pub mod Fuse
 pub mod Units
 pub mod Operation
+pub mod Beside
 pub mod Medium
 pub mod Bench
 pub mod Rows

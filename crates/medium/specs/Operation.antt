@@ -12,6 +12,7 @@ use Rattle.medium.specs.declared.fuse.Answered.{Answered}
 use Rattle.medium.specs.declared.fuse.Answered.the-variants as heard
 use Rattle.medium.specs.declared.geometry.Counted.{Counted}
 use Rattle.medium.specs.declared.geometry.Counted.the-variants as count
+pub use Rattle.medium.specs.Answer.{Answer, done, refused, andThen, orRefuse, numberOf}
 use Rattle.medium.specs.Granularity.{pick}
 use Rattle.medium.specs.Units.{FlashUnit, step}
 
@@ -44,20 +45,6 @@ prefix W zero (e ∷ es) = pick (W .power e) [] (e ∷ prefix W zero es)
 prefix W (suc k) (e ∷ es) = e ∷ prefix W (pick (W .power e) k (suc k)) es
 
 -- ---- operations
-
-pub data Answer (A : Type 0) : Type 0 where
-  done : A → Answer A
-  refused : ℕ → Answer A
-
--- on with the value, or the refusal
-abbrev pub andThen : {A B : Type 0} → Answer A → (A → Answer B) → Answer B
-andThen (done a) k = k a
-andThen (refused n) k = refused n
-
--- 0 goes on, any other number is a refusal
-abbrev pub orRefuse : ℕ → Answer (Unit {0})
-orRefuse zero = done tt
-orRefuse (suc n) = refused (suc n)
 
 pub record Run (W : World) (A : Type 0) : Type 0 where
   pub events : List (W .Event)
@@ -157,8 +144,3 @@ unlessDone (heard.Refused n) a b = a
 abbrev pub unlessStored : {A : Type 0} → Stored → A → A → A
 unlessStored (stored.Done f) a b = b
 unlessStored (stored.Refused n f) a b = a
-
--- 01's number
-abbrev pub numberOf : {A : Type 0} → Answer A → ℕ
-numberOf (done a) = 0
-numberOf (refused n) = n

@@ -1,7 +1,7 @@
 // How finely the chip is programmed, and every length and place that follows from it. One column of document 01's tables each.
 ghost use mathlib.Core.Path.{_≡_};
 ghost use Prim.Native.Nat.{_^_, _≤_, _<_};
-ghost use Rattle.medium.specs.Granularity.{granularityOf, granularityNumber, widestUnit, byteOf, widthOf, unitsIn, alignOf, finishAt, deleteAt, finishMark, sizeAt, header, blockHeader, typeAt, layoutBit};
+ghost use Rattle.medium.specs.Granularity.{granularityOf, granularityAnswer, granularityNumber, widestUnit, byteOf, widthOf, unitsIn, alignOf, finishAt, deleteAt, finishMark, sizeAt, header, blockHeader, typeAt, layoutBit};
 
 pub enum Granularity {
     Bit,
@@ -46,7 +46,7 @@ impl Granularity {
     pub const WORD4: u8 = 4;
 
     pub fn of_byte(b: u8) -> GranularityRead
-        ensures { λ r. ⌜ r ≡ granularityOf b ⌝ }
+        ensures { λ r. ⌜ granularityAnswer r ≡ granularityOf b ⌝ }
     {
         match b {
             Self::BIT => GranularityRead::Got(Granularity::Bit),

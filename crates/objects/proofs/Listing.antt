@@ -17,11 +17,9 @@ use Rattle.medium.proofs.Bytes.{fits-up}
 use Rattle.medium.proofs.Places.{width-is}
 use Rattle.objects.specs.declared.header.ObjectHeader.{ObjectHeader}
 use Rattle.objects.specs.declared.iterator.ObjectIterator.{ObjectIterator}
-use Rattle.objects.specs.declared.iterator.Next.{Next}
-use Rattle.objects.specs.declared.iterator.Next.the-variants as next
 use Rattle.objects.specs.Header.{payloadOf}
 use Rattle.objects.specs.Info.{Info, found, none, infoAt, totalOf, spanOf}
-use Rattle.objects.specs.Listing.{behind, nextIn, atEnd, nextOf, Listing, visited, listBy, listFrom}
+use Rattle.objects.specs.Listing.{behind, Met, object, freePlace, blockEnd, nextIn, atEnd, nextOf, Listing, visited, listBy, listFrom}
 
 -- a header has at least two bytes
 pub header-some : (k : Granularity) (s : ℕ) → 2 ≤ header k s
@@ -43,12 +41,12 @@ pub record Found (g : Geometry) (i : ObjectIterator) (img : List ℕ) (h : Objec
   pub object : infoAt g (i .location) img ≡ done (found h)
   pub then : j ≡ behind g i h
 
-pub next-found : (g : Geometry) (i : ObjectIterator) (img : List ℕ) (h : ObjectHeader) (j : ObjectIterator) → nextOf g i img ≡ next.Object h j → Found g i img h j
+pub next-found : (g : Geometry) (i : ObjectIterator) (img : List ℕ) (h : ObjectHeader) (j : ObjectIterator) → nextOf g i img ≡ done (object h j) → Found g i img h j
 unfolding nextOf
 next-found g i img h j e = go (orRefuse (checkOf g (length img))) refl e
   where
     info : (x : Answer Info) → orRefuse (checkOf g (length img)) ≡ done tt → i .location .offset + header (g .granularity) (g .s) < g .size
-        → infoAt g (i .location) img ≡ x → nextIn g i x ≡ next.Object h j → Found g i img h j
+        → infoAt g (i .location) img ≡ x → nextIn g i x ≡ done (object h j) → Found g i img h j
     info (done (found v)) c f q p =
         let a : v ≡ h = cc in
         let b : behind g i v ≡ j = cc in
@@ -57,11 +55,11 @@ next-found g i img h j e = go (orRefuse (checkOf g (length img))) refl e
     info (refused n) c f q p = let z : _≡_ {A = ℕ} 0 1 = cc in absurd (omega arith)
 
     room : (t : Bool) → orRefuse (checkOf g (length img)) ≡ done tt → leb (g .size) (i .location .offset + header (g .granularity) (g .s)) ≡ t
-        → pick t next.End (nextIn g i (infoAt g (i .location) img)) ≡ next.Object h j → Found g i img h j
+        → pick t (done blockEnd) (nextIn g i (infoAt g (i .location) img)) ≡ done (object h j) → Found g i img h j
     room true c q p = let z : _≡_ {A = ℕ} 0 1 = cc in absurd (omega arith)
     room false c q p = info (infoAt g (i .location) img) c (leb-false _ _ q) refl p
 
-    go : (a : Answer (Unit {0})) → orRefuse (checkOf g (length img)) ≡ a → atEnd g i a img ≡ next.Object h j → Found g i img h j
+    go : (a : Answer (Unit {0})) → orRefuse (checkOf g (length img)) ≡ a → atEnd g i a img ≡ done (object h j) → Found g i img h j
     go (done u) q p = room (leb (g .size) (i .location .offset + header (g .granularity) (g .s))) q refl p
     go (refused n) q p = let z : _≡_ {A = ℕ} 0 1 = cc in absurd (omega arith)
 
@@ -71,7 +69,7 @@ pub record Moves (g : Geometry) (i j : ObjectIterator) : Type 0 where
   pub within : i .location .offset + header (g .granularity) (g .s) < g .size
   pub block : j .location .block ≡ i .location .block
 
-pub next-moves : (g : Geometry) (i : ObjectIterator) (img : List ℕ) (h : ObjectHeader) (j : ObjectIterator) → nextOf g i img ≡ next.Object h j → Moves g i j
+pub next-moves : (g : Geometry) (i : ObjectIterator) (img : List ℕ) (h : ObjectHeader) (j : ObjectIterator) → nextOf g i img ≡ done (object h j) → Moves g i j
 next-moves g i img h j e =
     let v = next-found g i img h j e in
     let o : j .location .offset ≡ i .location .offset + spanOf (g .granularity) (g .s) h = ap (λ (x : ObjectIterator). x .location .offset) (v .then) in
@@ -83,7 +81,7 @@ next-moves g i img h j e =
 
 -- where no header fits, listing ends
 pub next-end : (g : Geometry) (i : ObjectIterator) (img : List ℕ) → orRefuse (checkOf g (length img)) ≡ done tt → g .size ≤ i .location .offset + header (g .granularity) (g .s)
-    → nextOf g i img ≡ next.End
+    → nextOf g i img ≡ done blockEnd
 unfolding nextOf
 next-end g i img c h = rw (c, le-leb _ _ h)
 
@@ -98,16 +96,16 @@ enough zero (suc n) g i img c hm hn = rw (next-end g i img c (omega (arith, head
 enough (suc m) zero g i img c hm hn = rw (next-end g i img c (omega (arith, header-some (g .granularity) (g .s))))
 enough (suc m) (suc n) g i img c hm hn = go (nextOf g i img) refl (λ j a b. enough m n g j img c a b)
   where
-    go : (x : Next) → nextOf g i img ≡ x
+    go : (x : Answer Met) → nextOf g i img ≡ x
         → ((j : ObjectIterator) → g .size ≤ j .location .offset + m → g .size ≤ j .location .offset + n → listFrom m g j img ≡ listFrom n g j img)
         → listBy x i (λ j. listFrom m g j img) ≡ listBy x i (λ j. listFrom n g j img)
-    go (next.Object h j) e more =
+    go (done (object h j)) e more =
         let v = next-moves g i img h j e in
         let s = header-some (g .granularity) (g .s) in
         ap (λ (l : Listing). visited i h l) (more j (omega (arith, v .forward)) (omega (arith, v .forward)))
-    go next.Free e more = refl
-    go next.End e more = refl
-    go (next.Refused k) e more = refl
+    go (done freePlace) e more = refl
+    go (done blockEnd) e more = refl
+    go (refused k) e more = refl
 
 -- so a listing with the block size as its fuel is its first step and a listing with the same fuel
 pub unroll : (g : Geometry) (i : ObjectIterator) (img : List ℕ) → orRefuse (checkOf g (length img)) ≡ done tt → 1 ≤ g .size
@@ -117,12 +115,12 @@ unroll g i img c h = enough (g .size) (suc (g .size)) g i img c (omega arith) (o
 
 -- ---- how many visits there can be
 
-few : (n : ℕ) (i : ObjectIterator) (x : Next) (more : ObjectIterator → Listing) → ((j : ObjectIterator) → length (more j .visits) ≤ n)
+few : (n : ℕ) (i : ObjectIterator) (x : Answer Met) (more : ObjectIterator → Listing) → ((j : ObjectIterator) → length (more j .visits) ≤ n)
     → length (listBy x i more .visits) ≤ suc n
-few n i (next.Object h j) more f = omega (arith, f j)
-few n i next.Free more f = omega arith
-few n i next.End more f = omega arith
-few n i (next.Refused k) more f = omega arith
+few n i (done (object h j)) more f = omega (arith, f j)
+few n i (done freePlace) more f = omega arith
+few n i (done blockEnd) more f = omega arith
+few n i (refused k) more f = omega arith
 
 -- no listing has more visits than its fuel, so none of a block more than the block has bytes
 pub few-visits : (n : ℕ) (g : Geometry) (i : ObjectIterator) (img : List ℕ) → length (listFrom n g i img .visits) ≤ n

@@ -24,17 +24,29 @@ startOf g b = placed b (blockHeader (g .granularity))
 abbrev pub behind : Geometry → ObjectIterator → ObjectHeader → ObjectIterator
 behind g i h = placed (i .location .block) (i .location .offset + spanOf (g .granularity) (g .s) h)
 
-abbrev pub nextIn : Geometry → ObjectIterator → Answer Info → Next
-nextIn g i (done (found h)) = next.Object h (behind g i h)
-nextIn g i (done none) = next.Free
-nextIn g i (refused n) = next.Refused n
+-- what one step of a listing meets: an object, with the iterator behind it, a free place, or the end of the block
+pub data Met : Type 0 where
+  object : ObjectHeader → ObjectIterator → Met
+  freePlace : Met
+  blockEnd : Met
+
+abbrev pub nextAnswer : Next → Answer Met
+nextAnswer (next.Object h j) = done (object h j)
+nextAnswer next.Free = done freePlace
+nextAnswer next.End = done blockEnd
+nextAnswer (next.Refused n) = refused n
+
+abbrev pub nextIn : Geometry → ObjectIterator → Answer Info → Answer Met
+nextIn g i (done (found h)) = done (object h (behind g i h))
+nextIn g i (done none) = done freePlace
+nextIn g i (refused n) = refused n
 
 -- whether no header fits here any more
-abbrev pub atEnd : Geometry → ObjectIterator → Answer (Unit {0}) → List ℕ → Next
-atEnd g i (done _) img = pick (leb (g .size) (i .location .offset + header (g .granularity) (g .s))) next.End (nextIn g i (infoAt g (i .location) img))
-atEnd g i (refused n) img = next.Refused n
+abbrev pub atEnd : Geometry → ObjectIterator → Answer (Unit {0}) → List ℕ → Answer Met
+atEnd g i (done _) img = pick (leb (g .size) (i .location .offset + header (g .granularity) (g .s))) (done blockEnd) (nextIn g i (infoAt g (i .location) img))
+atEnd g i (refused n) img = refused n
 
-unfoldable pub nextOf : Geometry → ObjectIterator → List ℕ → Next
+unfoldable pub nextOf : Geometry → ObjectIterator → List ℕ → Answer Met
 nextOf g i img = atEnd g i (orRefuse (checkOf g (length img))) img
 
 -- ---- a listing: its visits in order, where it stands at last, and why it stopped
@@ -59,11 +71,11 @@ stopped i s = record { visits = []; last = i .location .offset; stop = s }
 abbrev pub visited : ObjectIterator → ObjectHeader → Listing → Listing
 visited i h l = record { visits = record { offset = i .location .offset; object = h } ∷ l .visits; last = l .last; stop = l .stop }
 
-abbrev pub listBy : Next → ObjectIterator → (ObjectIterator → Listing) → Listing
-listBy (next.Object h j) i more = visited i h (more j)
-listBy next.Free i more = stopped i free
-listBy next.End i more = stopped i end
-listBy (next.Refused n) i more = stopped i (broken n)
+abbrev pub listBy : Answer Met → ObjectIterator → (ObjectIterator → Listing) → Listing
+listBy (done (object h j)) i more = visited i h (more j)
+listBy (done freePlace) i more = stopped i free
+listBy (done blockEnd) i more = stopped i end
+listBy (refused n) i more = stopped i (broken n)
 
 -- with at most n visits; a block has fewer than it has bytes
 unfoldable pub listFrom : ℕ → Geometry → ObjectIterator → List ℕ → Listing

@@ -84,13 +84,18 @@ pastLocation g m = record { object = m .object; hash = m .hash; name = m .name; 
 abbrev pub listedAt : Geometry → MetadataObjectHeader → ℕ
 listedAt g m = hashAt g (m .object) + metadataHeader g + m .cursor
 
-abbrev pub nextIn : Answer ObjectLocation → MetadataObjectHeader → NextLocation
-nextIn (done l) m = next.At l m
-nextIn (refused n) m = next.Refused n
+-- what one step of the list meets: a location, with the header behind it, or the list's end
+pub data Listed : Type 0 where
+  location : ObjectLocation → MetadataObjectHeader → Listed
+  noMore : Listed
 
-abbrev pub nextBy : Geometry → MetadataObjectHeader → List ℕ → Answer ℕ → NextLocation
-nextBy g m img (done e) = pick (leb e (m .cursor)) next.End (nextIn (locationAt g (m .object .location .block) (listedAt g m) img) (pastLocation g m))
-nextBy g m img (refused n) = next.Refused n
+abbrev pub nextLocationAnswer : NextLocation → Answer Listed
+nextLocationAnswer (next.At l m) = done (location l m)
+nextLocationAnswer next.End = done noMore
+nextLocationAnswer (next.Refused n) = refused n
+
+abbrev pub nextListed : Geometry → MetadataObjectHeader → List ℕ → Answer Listed
+nextListed g m img = andThen (locationAt g (m .object .location .block) (listedAt g m) img) (λ l. done (location l (pastLocation g m)))
 
 unfoldable pub listable : Geometry → MetadataObjectHeader → ℕ → Answer ℕ
 listable g m room =
@@ -98,8 +103,8 @@ listable g m room =
     andThen (orRefuse (possible (m .cursor))) (λ _.
     listEnd g (payloadSizeOf (g .s) (m .object))))
 
-unfoldable pub nextLocation : Geometry → MetadataObjectHeader → List ℕ → NextLocation
-nextLocation g m img = nextBy g m img (listable g m (length img))
+unfoldable pub nextLocation : Geometry → MetadataObjectHeader → List ℕ → Answer Listed
+nextLocation g m img = andThen (listable g m (length img)) (λ e. pick (leb e (m .cursor)) (done noMore) (nextListed g m img))
 
 abbrev pub resetOf : MetadataObjectHeader → MetadataObjectHeader
 resetOf m = record { object = m .object; hash = m .hash; name = m .name; cursor = 0 }

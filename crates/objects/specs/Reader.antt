@@ -76,10 +76,21 @@ readSome g r n img =
     andThen (readAt g (r .object .location .block) (cursorAt g r) (min n left) img) (λ bs.
     done (record { bytes = bs; reader = moved r (min n left) })))
 
--- the count and the reader that the answer holds
-abbrev pub readingOf : Answer Chunk → Reading
-readingOf (done k) = reading.Read (length (k .bytes)) (k .reader)
-readingOf (refused n) = reading.Refused n
+-- how many bytes were read, and the reader behind them
+pub record Counting : Type 0 where
+  pub count : ℕ
+  pub reader : ObjectReader
+
+abbrev pub readingAnswer : Reading → Answer Counting
+readingAnswer (reading.Read n r) = done (record { count = n; reader = r })
+readingAnswer (reading.Refused n) = refused n
+
+abbrev pub readingNumber : Reading → ℕ
+readingNumber (reading.Read n r) = 0
+readingNumber (reading.Refused n) = n
+
+abbrev pub counting : Chunk → Answer Counting
+counting k = done (record { count = length (k .bytes); reader = k .reader })
 
 -- the buffer afterwards: its first bytes are those read
 abbrev pub filled : Answer Chunk → List ℕ → List ℕ

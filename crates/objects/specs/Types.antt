@@ -26,31 +26,49 @@ typeByte FileMetadata = 0x8F
 typeByte FileData = 0x8E
 typeByte FileName = 0x8D
 
-unfoldable pub typeOf : ℕ → TypeRead
+-- a type, or that nothing is there
+pub data TypeSaid : Type 0 where
+  typed : ObjectType → TypeSaid
+  untyped : TypeSaid
+
+unfoldable pub typeOf : ℕ → Answer TypeSaid
 typeOf b =
-    pick (eqb b 0x8F) (ty.Got FileMetadata)
-    (pick (eqb b 0x8E) (ty.Got FileData)
-    (pick (eqb b 0x8D) (ty.Got FileName)
-    (pick (eqb b 0xFF) ty.Free (ty.Refused 2))))
+    pick (eqb b 0x8F) (done (typed FileMetadata))
+    (pick (eqb b 0x8E) (done (typed FileData))
+    (pick (eqb b 0x8D) (done (typed FileName))
+    (pick (eqb b 0xFF) (done untyped) (refused 2))))
+
+abbrev pub typeAnswer : TypeRead → Answer TypeSaid
+typeAnswer (ty.Got t) = done (typed t)
+typeAnswer ty.Free = done untyped
+typeAnswer (ty.Refused n) = refused n
 
 -- ---- the marks
 
-unfoldable pub markOf : ℕ → DataStateRead
+unfoldable pub markOf : ℕ → Answer ObjectDataState
 markOf b =
-    pick (eqb b 0xFF) (mark.Got Untrusted)
-    (pick (eqb b 0xF0) (mark.Got Valid)
-    (pick (eqb b 0x00) (mark.Got Deleted)
-    (mark.Refused 2)))
+    pick (eqb b 0xFF) (done Untrusted)
+    (pick (eqb b 0xF0) (done Valid)
+    (pick (eqb b 0x00) (done Deleted)
+    (refused 2)))
 
-unfoldable pub pairOf : ℕ → ℕ → DataStateRead
+unfoldable pub pairOf : ℕ → ℕ → Answer ObjectDataState
 pairOf a b =
-    pick (eqb a 0xFF) (pick (eqb b 0xFF) (mark.Got Untrusted) (mark.Refused 2))
+    pick (eqb a 0xFF) (pick (eqb b 0xFF) (done Untrusted) (refused 2))
     (pick (eqb a 0x00)
-    (pick (eqb b 0xFF) (mark.Got Valid)
-    (pick (eqb b 0x00) (mark.Got Deleted) (mark.Refused 2)))
-    (mark.Refused 2))
+    (pick (eqb b 0xFF) (done Valid)
+    (pick (eqb b 0x00) (done Deleted) (refused 2)))
+    (refused 2))
 
-unfoldable pub marksOf : Granularity → ℕ → ℕ → DataStateRead
+abbrev pub dataStateAnswer : DataStateRead → Answer ObjectDataState
+dataStateAnswer (mark.Got d) = done d
+dataStateAnswer (mark.Refused n) = refused n
+
+abbrev pub dataStateNumber : DataStateRead → ℕ
+dataStateNumber (mark.Got d) = 0
+dataStateNumber (mark.Refused n) = n
+
+unfoldable pub marksOf : Granularity → ℕ → ℕ → Answer ObjectDataState
 marksOf Bit a b = markOf a
 marksOf Word1 a b = pairOf a b
 marksOf Word4 a b = pairOf a b
@@ -94,14 +112,14 @@ stateOf (comp.Allocated t d) = stateBy d
 
 -- ---- the composite state in the bytes before the size field
 
-abbrev pub withMark : ObjectType → DataStateRead → Answer CompositeObjectState
-withMark t (mark.Got d) = done (comp.Allocated t d)
-withMark t (mark.Refused k) = refused k
+abbrev pub withMark : ObjectType → Answer ObjectDataState → Answer CompositeObjectState
+withMark t (done d) = done (comp.Allocated t d)
+withMark t (refused k) = refused k
 
-abbrev pub compositeOf : TypeRead → DataStateRead → Answer CompositeObjectState
-compositeOf (ty.Got t) m = withMark t m
-compositeOf ty.Free m = done comp.Free
-compositeOf (ty.Refused k) m = refused k
+abbrev pub compositeOf : Answer TypeSaid → Answer ObjectDataState → Answer CompositeObjectState
+compositeOf (done (typed t)) m = withMark t m
+compositeOf (done untyped) m = done comp.Free
+compositeOf (refused k) m = refused k
 
 unfoldable pub stateIn : Granularity → List ℕ → Answer CompositeObjectState
 stateIn k bs = compositeOf (typeOf (getD bs 0 0)) (marksOf k (getD bs (finishAt k) 0) (getD bs (deleteAt k) 0))

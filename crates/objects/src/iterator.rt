@@ -6,7 +6,7 @@ use crate::location::ObjectLocation;
 use medium::geometry::Geometry;
 ghost use mathlib.Core.Path.{_≡_};
 ghost use Prim.Native.Nat.{_+_, _<_};
-ghost use Rattle.objects.specs.Listing.{placed, startOf, nextOf};
+ghost use Rattle.objects.specs.Listing.{placed, startOf, nextAnswer, nextOf};
 
 pub struct ObjectIterator {
     pub location: ObjectLocation,
@@ -50,7 +50,7 @@ impl ObjectIterator {
 
     // The object here and the iterator behind it; or why there is none.
     pub fn next(self, g: Geometry, image: &[u8]) -> Next
-        ensures { λ r. ⌜ r ≡ nextOf g self (now (image .entry)) ⌝ }
+        ensures { λ r. ⌜ nextAnswer r ≡ nextOf g self (now (image .entry)) ⌝ }
     {
         let bad = medium::geometry::check(g, image.len());
         if bad != 0 {

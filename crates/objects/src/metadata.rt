@@ -16,7 +16,7 @@ ghost use lib.ListN.{length};
 ghost use Rattle.medium.specs.Operation.{counted};
 ghost use Rattle.objects.specs.Location.{locationAnswer};
 ghost use Rattle.objects.specs.Header.{payloadSizeOf};
-ghost use Rattle.objects.specs.Metadata.{metadataAnswer, metadataNumber, countAnswer, countNumber, numberAt, readMetadata, metadataAt, listEnd, listable, listedAt, pastLocation, nextLocation, resetOf};
+ghost use Rattle.objects.specs.Metadata.{metadataAnswer, metadataNumber, countAnswer, countNumber, numberAt, readMetadata, metadataAt, listEnd, listable, listedAt, pastLocation, nextLocationAnswer, nextLocation, resetOf};
 
 pub struct MetadataObjectHeader {
     pub object: ObjectHeader,
@@ -189,7 +189,7 @@ impl MetadataObjectHeader {
 
     // The location of the next data object.
     pub fn next_object_location(self, g: Geometry, image: &[u8]) -> NextLocation
-        ensures { λ r. ⌜ r ≡ nextLocation g self (now (image .entry)) ⌝ }
+        ensures { λ r. ⌜ nextLocationAnswer r ≡ nextLocation g self (now (image .entry)) ⌝ }
     {
         let e = self.may_list(g, image.len());
         let Counted::Bytes(end) = e else {

@@ -9,8 +9,8 @@ use medium::geometry::Geometry;
 ghost use mathlib.Core.Path.{_≡_};
 ghost use Prim.Native.Nat.{_+_, _≤_, _<_, min};
 ghost use lib.ListN.{length};
-ghost use Rattle.medium.specs.Operation.{counted};
-ghost use Rattle.objects.specs.Reader.{readerAnswer, readerNumber, readerAt, readerLen, remainingOf, remaining, rewound, leftOf, cursorAt, readingOf, readSome, filled};
+ghost use Rattle.medium.specs.Operation.{andThen, counted};
+ghost use Rattle.objects.specs.Reader.{readerAnswer, readerNumber, readerAt, readerLen, remainingOf, remaining, rewound, leftOf, cursorAt, readingAnswer, readingNumber, counting, readSome, filled};
 
 pub struct ObjectReader {
     pub object: ObjectHeader,
@@ -37,6 +37,17 @@ impl ReaderRead {
 pub enum Reading {
     Read(usize, ObjectReader),
     Refused(u8),
+}
+
+impl Reading {
+    pub fn number(self) -> u8
+        ensures { λ r. ⌜ r ≡ readingNumber self ⌝ }
+    {
+        match self {
+            Reading::Read(_, _) => 0,
+            Reading::Refused(k) => k,
+        }
+    }
 }
 
 impl ObjectReader {
@@ -155,7 +166,7 @@ impl ObjectReader {
 
     // As much of what is left as the buffer holds, into its first bytes.
     pub fn read(self, g: Geometry, image: &[u8], buffer: &mut [u8]) -> Reading
-        ensures { λ r. ⌜ r ≡ readingOf (readSome g self (length (now (buffer .entry))) (now (image .entry))) ⌝ }
+        ensures { λ r. ⌜ readingAnswer r ≡ andThen (readSome g self (length (now (buffer .entry))) (now (image .entry))) counting ⌝ }
         ensures { λ _. ⌜ now (buffer .exit) ≡ filled (readSome g self (length (now (buffer .entry))) (now (image .entry))) (now (buffer .entry)) ⌝ }
     {
         let l = self.may_read(g, image.len());

@@ -9,7 +9,7 @@ ghost use mathlib.Core.Path.{_≡_};
 ghost use lib.ListN.{length};
 ghost use Rattle.medium.specs.Granularity.{sizeAt};
 ghost use Rattle.medium.specs.Operation.{answered};
-ghost use Rattle.objects.specs.Types.{markOf, pairOf, marksOf, rankTo, rankOf, stateOf, rankIn, markAt, markByte, stateIn};
+ghost use Rattle.objects.specs.Types.{dataStateAnswer, dataStateNumber, markOf, pairOf, marksOf, rankTo, rankOf, stateOf, rankIn, markAt, markByte, stateIn};
 ghost use Rattle.objects.specs.Header.{stateAnswer, stateNumber, stateAt, allocatableOf};
 
 pub enum ObjectDataState {
@@ -22,6 +22,17 @@ pub enum ObjectDataState {
 pub enum DataStateRead {
     Got(ObjectDataState),
     Refused(u8),
+}
+
+impl DataStateRead {
+    pub fn number(self) -> u8
+        ensures { λ r. ⌜ r ≡ dataStateNumber self ⌝ }
+    {
+        match self {
+            DataStateRead::Got(_) => 0,
+            DataStateRead::Refused(k) => k,
+        }
+    }
 }
 
 pub enum CompositeObjectState {
@@ -80,7 +91,7 @@ impl ObjectDataState {
 
     // One state byte, as under Bit.
     fn parse(b: u8) -> DataStateRead
-        ensures { λ r. ⌜ r ≡ markOf b ⌝ }
+        ensures { λ r. ⌜ dataStateAnswer r ≡ markOf b ⌝ }
     {
         match b {
             0xFF => DataStateRead::Got(ObjectDataState::Untrusted),
@@ -92,7 +103,7 @@ impl ObjectDataState {
 
     // Two marks, as under either Word.
     fn parse_pair(finished: u8, deleted: u8) -> DataStateRead
-        ensures { λ r. ⌜ r ≡ pairOf finished deleted ⌝ }
+        ensures { λ r. ⌜ dataStateAnswer r ≡ pairOf finished deleted ⌝ }
     {
         match finished {
             0xFF => match deleted {
@@ -109,7 +120,7 @@ impl ObjectDataState {
     }
 
     pub fn of_marks(k: Granularity, finished: u8, deleted: u8) -> DataStateRead
-        ensures { λ r. ⌜ r ≡ marksOf k finished deleted ⌝ }
+        ensures { λ r. ⌜ dataStateAnswer r ≡ marksOf k finished deleted ⌝ }
     {
         match k {
             Granularity::Bit => ObjectDataState::parse(finished),
@@ -177,10 +188,10 @@ impl CompositeObjectState {
                 let f = k.finish_at();
                 let d = k.delete_at();
                 let m = ObjectDataState::of_marks(k, raw[f], raw[d]);
-                match m {
-                    DataStateRead::Got(x) => StateRead::Got(CompositeObjectState::Allocated(t, x)),
-                    DataStateRead::Refused(n) => StateRead::Refused(n),
-                }
+                let DataStateRead::Got(x) = m else {
+                    return StateRead::Refused(m.number());
+                };
+                StateRead::Got(CompositeObjectState::Allocated(t, x))
             }
         }
     }

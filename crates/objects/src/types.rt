@@ -1,6 +1,6 @@
 // The type of an object, and the byte that says it.
 ghost use mathlib.Core.Path.{_≡_};
-ghost use Rattle.objects.specs.Types.{typeByte, typeOf};
+ghost use Rattle.objects.specs.Types.{typeByte, typeOf, typeAnswer};
 
 pub enum ObjectType {
     FileMetadata,
@@ -35,7 +35,7 @@ impl ObjectType {
     }
 
     pub fn parse(b: u8) -> TypeRead
-        ensures { λ r. ⌜ r ≡ typeOf b ⌝ }
+        ensures { λ r. ⌜ typeAnswer r ≡ typeOf b ⌝ }
     {
         match b {
             Self::FILE_METADATA => TypeRead::Got(ObjectType::FileMetadata),

@@ -11,8 +11,24 @@ use Rattle.medium.specs.Operation.{Answer, done, refused, EndIn, End, ended, en
 use Rattle.medium.proofs.Outcome.{Same, one-outcome, one-value, one-answer, one-buffer}
 use Rattle.medium.specs.declared.geometry.Counted.{Counted}
 use Rattle.medium.specs.declared.geometry.Counted.the-variants as counted
+use Rattle.medium.specs.declared.granularity.GranularityRead.{GranularityRead}
+use Rattle.medium.specs.declared.granularity.GranularityRead.the-variants as granularity
+use Rattle.objects.specs.declared.types.TypeRead.{TypeRead}
+use Rattle.objects.specs.declared.types.TypeRead.the-variants as type
+use Rattle.objects.specs.declared.state.DataStateRead.{DataStateRead}
+use Rattle.objects.specs.declared.state.DataStateRead.the-variants as data-state
+use Rattle.objects.specs.declared.iterator.Next.{Next}
+use Rattle.objects.specs.declared.iterator.Next.the-variants as next
+use Rattle.objects.specs.declared.reader.Reading.{Reading}
+use Rattle.objects.specs.declared.reader.Reading.the-variants as reading
+use Rattle.objects.specs.declared.metadata.NextLocation.{NextLocation}
+use Rattle.objects.specs.declared.metadata.NextLocation.the-variants as next-location
+use Rattle.objects.specs.Types.{TypeSaid, typed, untyped, typeAnswer}
+use Rattle.objects.specs.Listing.{Met, object, freePlace, blockEnd, nextAnswer}
+use Rattle.objects.specs.Reader.{Counting, readingAnswer}
+use Rattle.objects.specs.Metadata.{Listed, location, noMore, nextLocationAnswer}
 use Rattle.objects.specs.declared.location.LocationRead.{LocationRead}
-use Rattle.objects.specs.declared.location.LocationRead.the-variants as location
+use Rattle.objects.specs.declared.location.LocationRead.the-variants as located
 use Rattle.objects.specs.declared.state.StateRead.{StateRead}
 use Rattle.objects.specs.declared.state.StateRead.the-variants as state
 use Rattle.objects.specs.declared.header.HeaderRead.{HeaderRead}
@@ -39,7 +55,9 @@ use Rattle.writer.specs.declared.writer.Wrote.the-variants as wrote
 use Rattle.writer.specs.Writer.{keptOf, wroteEnd}
 use Rattle.blocks.specs.declared.format.Emptiness.{Emptiness}
 use Rattle.blocks.specs.declared.format.Emptiness.the-variants as emptiness
-use Rattle.blocks.specs.Format.{emptinessAnswer}
+use Rattle.blocks.specs.declared.format.Plan.{Plan}
+use Rattle.blocks.specs.declared.format.Plan.the-variants as plan
+use Rattle.blocks.specs.Format.{emptinessAnswer, Planned, keep, label, renew, planAnswer}
 use Rattle.crossing.specs.declared.call.GeometryRead.{GeometryRead}
 use Rattle.crossing.specs.declared.call.GeometryRead.the-variants as geometry
 use Rattle.crossing.specs.declared.values.TargetRead.{TargetRead}
@@ -63,12 +81,26 @@ counted-one = one counted (back counted.Bytes counted.Refused) (λ r. go r)
     go (counted.Bytes v) = refl
     go (counted.Refused n) = refl
 
-pub location-one : {r r′ : LocationRead} → Rattle.objects.specs.Location.locationAnswer r ≡ Rattle.objects.specs.Location.locationAnswer r′ → r ≡ r′
-location-one = one Rattle.objects.specs.Location.locationAnswer (back location.Got location.Refused) (λ r. go r)
+pub granularity-one : {r r′ : GranularityRead} → Rattle.medium.specs.Granularity.granularityAnswer r ≡ Rattle.medium.specs.Granularity.granularityAnswer r′ → r ≡ r′
+granularity-one = one Rattle.medium.specs.Granularity.granularityAnswer (back granularity.Got granularity.Refused) (λ r. go r)
   where
-    go : (r : LocationRead) → back location.Got location.Refused (Rattle.objects.specs.Location.locationAnswer r) ≡ r
-    go (location.Got v) = refl
-    go (location.Refused n) = refl
+    go : (r : GranularityRead) → back granularity.Got granularity.Refused (Rattle.medium.specs.Granularity.granularityAnswer r) ≡ r
+    go (granularity.Got v) = refl
+    go (granularity.Refused n) = refl
+
+pub location-one : {r r′ : LocationRead} → Rattle.objects.specs.Location.locationAnswer r ≡ Rattle.objects.specs.Location.locationAnswer r′ → r ≡ r′
+location-one = one Rattle.objects.specs.Location.locationAnswer (back located.Got located.Refused) (λ r. go r)
+  where
+    go : (r : LocationRead) → back located.Got located.Refused (Rattle.objects.specs.Location.locationAnswer r) ≡ r
+    go (located.Got v) = refl
+    go (located.Refused n) = refl
+
+pub data-state-one : {r r′ : DataStateRead} → Rattle.objects.specs.Types.dataStateAnswer r ≡ Rattle.objects.specs.Types.dataStateAnswer r′ → r ≡ r′
+data-state-one = one Rattle.objects.specs.Types.dataStateAnswer (back data-state.Got data-state.Refused) (λ r. go r)
+  where
+    go : (r : DataStateRead) → back data-state.Got data-state.Refused (Rattle.objects.specs.Types.dataStateAnswer r) ≡ r
+    go (data-state.Got v) = refl
+    go (data-state.Refused n) = refl
 
 pub state-one : {r r′ : StateRead} → Rattle.objects.specs.Header.stateAnswer r ≡ Rattle.objects.specs.Header.stateAnswer r′ → r ≡ r′
 state-one = one Rattle.objects.specs.Header.stateAnswer (back state.Got state.Refused) (λ r. go r)
@@ -147,7 +179,76 @@ object-type-one = one Rattle.crossing.specs.Kinds.objectTypeAnswer (back object
     go (object-type.Got v) = refl
     go (object-type.Refused n) = refl
 
+-- ---- two values in one answer
+
+abbrev reading-back : Answer Counting → Reading
+reading-back (done c) = reading.Read (c .count) (c .reader)
+reading-back (refused n) = reading.Refused n
+
+pub reading-one : {r r′ : Reading} → readingAnswer r ≡ readingAnswer r′ → r ≡ r′
+reading-one = one readingAnswer reading-back (λ r. go r)
+  where
+    go : (r : Reading) → reading-back (readingAnswer r) ≡ r
+    go (reading.Read n v) = refl
+    go (reading.Refused n) = refl
+
 -- ---- more than one way to be done
+
+abbrev type-back : Answer TypeSaid → TypeRead
+type-back (done (typed t)) = type.Got t
+type-back (done untyped) = type.Free
+type-back (refused n) = type.Refused n
+
+pub type-one : {r r′ : TypeRead} → typeAnswer r ≡ typeAnswer r′ → r ≡ r′
+type-one = one typeAnswer type-back (λ r. go r)
+  where
+    go : (r : TypeRead) → type-back (typeAnswer r) ≡ r
+    go (type.Got t) = refl
+    go type.Free = refl
+    go (type.Refused n) = refl
+
+abbrev next-back : Answer Met → Next
+next-back (done (object h j)) = next.Object h j
+next-back (done freePlace) = next.Free
+next-back (done blockEnd) = next.End
+next-back (refused n) = next.Refused n
+
+pub next-one : {r r′ : Next} → nextAnswer r ≡ nextAnswer r′ → r ≡ r′
+next-one = one nextAnswer next-back (λ r. go r)
+  where
+    go : (r : Next) → next-back (nextAnswer r) ≡ r
+    go (next.Object h j) = refl
+    go next.Free = refl
+    go next.End = refl
+    go (next.Refused n) = refl
+
+abbrev next-location-back : Answer Listed → NextLocation
+next-location-back (done (location l m)) = next-location.At l m
+next-location-back (done noMore) = next-location.End
+next-location-back (refused n) = next-location.Refused n
+
+pub next-location-one : {r r′ : NextLocation} → nextLocationAnswer r ≡ nextLocationAnswer r′ → r ≡ r′
+next-location-one = one nextLocationAnswer next-location-back (λ r. go r)
+  where
+    go : (r : NextLocation) → next-location-back (nextLocationAnswer r) ≡ r
+    go (next-location.At l m) = refl
+    go next-location.End = refl
+    go (next-location.Refused n) = refl
+
+abbrev plan-back : Answer Planned → Plan
+plan-back (done keep) = plan.Keep
+plan-back (done label) = plan.Label
+plan-back (done (renew n)) = plan.Renew n
+plan-back (refused k) = plan.Refused k
+
+pub plan-one : {r r′ : Plan} → planAnswer r ≡ planAnswer r′ → r ≡ r′
+plan-one = one planAnswer plan-back (λ r. go r)
+  where
+    go : (r : Plan) → plan-back (planAnswer r) ≡ r
+    go plan.Keep = refl
+    go plan.Label = refl
+    go (plan.Renew n) = refl
+    go (plan.Refused k) = refl
 
 abbrev info-back : Answer Info → InfoRead
 info-back (done (found h)) = info.Found h

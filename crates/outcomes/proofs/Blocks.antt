@@ -2,7 +2,7 @@
 use mathlib.Core.Path.{_≡_, sym, _∙_}
 use denote.Ref.{now}
 use Rattle.outcomes.proofs.One.{One}
-use Rattle.outcomes.proofs.Answers.{block-header-one, block-info-one, counted-one, emptiness-one, kind-one, stored-one}
+use Rattle.outcomes.proofs.Answers.{block-header-one, block-info-one, counted-one, emptiness-one, kind-one, plan-one, stored-one}
 use Rattle.blocks.proofs.format.Emptiness.number.Reads as format-Emptiness-number
 use Rattle.blocks.proofs.format.Plan.number.Reads as format-Plan-number
 use Rattle.blocks.proofs.format.is_block_data_empty.Reads as format-is-block-data-empty
@@ -42,7 +42,7 @@ pub format-is-block-data-empty-one : One format-is-block-data-empty.Post (λ _ r
 format-is-block-data-empty-one _ _ r r′ e e′ p q = emptiness-one (p ∙ sym q)
 
 pub format-plan-format-one : One format-plan-format.Post (λ _ r e r′ e′. r ≡ r′)
-format-plan-format-one _ _ r r′ e e′ p q = p ∙ sym q
+format-plan-format-one _ _ r r′ e e′ p q = plan-one (p ∙ sym q)
 
 pub format-format-block-one : One format-format-block.Post (λ _ r e r′ e′. (r ≡ r′) × (now (e .1 .0) ≡ now (e′ .1 .0)))
 format-format-block-one _ _ r r′ e e′ p q = stored-one r r′ _ _ _ p q

@@ -2,7 +2,7 @@
 use mathlib.Core.Path.{_≡_, sym, _∙_}
 use denote.Ref.{now}
 use Rattle.outcomes.proofs.One.{One}
-use Rattle.outcomes.proofs.Answers.{counted-one, heard-one, stored-one}
+use Rattle.outcomes.proofs.Answers.{counted-one, granularity-one, heard-one, stored-one}
 use Rattle.medium.proofs.fuse.Stored.number.Reads as fuse-Stored-number
 use Rattle.medium.proofs.fuse.Answered.number.Reads as fuse-Answered-number
 use Rattle.medium.proofs.geometry.limit.Reads as geometry-limit
@@ -54,7 +54,7 @@ pub granularity-GranularityRead-number-one : One granularity-GranularityRead-num
 granularity-GranularityRead-number-one _ _ r r′ e e′ p q = p ∙ sym q
 
 pub granularity-Granularity-of-byte-one : One granularity-Granularity-of-byte.Post (λ _ r e r′ e′. r ≡ r′)
-granularity-Granularity-of-byte-one _ _ r r′ e e′ p q = p ∙ sym q
+granularity-Granularity-of-byte-one _ _ r r′ e e′ p q = granularity-one (p ∙ sym q)
 
 pub granularity-Granularity-byte-one : One granularity-Granularity-byte.Post (λ _ r e r′ e′. r ≡ r′)
 granularity-Granularity-byte-one _ _ r r′ e e′ p q = p ∙ sym q

@@ -2,7 +2,7 @@
 use mathlib.Core.Path.{_≡_, sym, _∙_}
 use denote.Ref.{now}
 use Rattle.outcomes.proofs.One.{One}
-use Rattle.outcomes.proofs.Answers.{answered-one, counted-one, headed-one, header-one, heard-one, info-one, location-one, metadata-one, reader-one, state-one}
+use Rattle.outcomes.proofs.Answers.{answered-one, counted-one, data-state-one, headed-one, header-one, heard-one, info-one, location-one, metadata-one, next-location-one, next-one, reader-one, reading-one, state-one, type-one}
 use Rattle.objects.proofs.header.HeaderRead.number.Reads as header-HeaderRead-number
 use Rattle.objects.proofs.header.unset.Reads as header-unset
 use Rattle.objects.proofs.header.ObjectHeader.read.Reads as header-ObjectHeader-read
@@ -33,11 +33,13 @@ use Rattle.objects.proofs.payload.reach.Reads as payload-reach
 use Rattle.objects.proofs.payload.lend.Reads as payload-lend
 use Rattle.objects.proofs.payload.is_same.Reads as payload-is-same
 use Rattle.objects.proofs.reader.ReaderRead.number.Reads as reader-ReaderRead-number
+use Rattle.objects.proofs.reader.Reading.number.Reads as reader-Reading-number
 use Rattle.objects.proofs.reader.ObjectReader.new.Reads as reader-ObjectReader-new
 use Rattle.objects.proofs.reader.ObjectReader.len.Reads as reader-ObjectReader-len
 use Rattle.objects.proofs.reader.ObjectReader.remaining.Reads as reader-ObjectReader-remaining
 use Rattle.objects.proofs.reader.ObjectReader.rewind.Reads as reader-ObjectReader-rewind
 use Rattle.objects.proofs.reader.ObjectReader.read.Reads as reader-ObjectReader-read
+use Rattle.objects.proofs.state.DataStateRead.number.Reads as state-DataStateRead-number
 use Rattle.objects.proofs.state.StateRead.number.Reads as state-StateRead-number
 use Rattle.objects.proofs.state.ObjectState.rank.Reads as state-ObjectState-rank
 use Rattle.objects.proofs.state.ObjectDataState.rank.Reads as state-ObjectDataState-rank
@@ -97,7 +99,7 @@ pub iterator-ObjectIterator-new-one : One iterator-ObjectIterator-new.Post (λ _
 iterator-ObjectIterator-new-one _ _ r r′ e e′ p q = p ∙ sym q
 
 pub iterator-ObjectIterator-next-one : One iterator-ObjectIterator-next.Post (λ _ r e r′ e′. r ≡ r′)
-iterator-ObjectIterator-next-one _ _ r r′ e e′ p q = p ∙ sym q
+iterator-ObjectIterator-next-one _ _ r r′ e e′ p q = next-one (p ∙ sym q)
 
 pub iterator-ObjectIterator-current-offset-one : One iterator-ObjectIterator-current-offset.Post (λ _ r e r′ e′. r ≡ r′)
 iterator-ObjectIterator-current-offset-one _ _ r r′ e e′ p q = p ∙ sym q
@@ -121,7 +123,7 @@ pub metadata-read-at-one : One metadata-read-at.Post (λ _ r e r′ e′. r ≡ 
 metadata-read-at-one _ _ r r′ e e′ p q = metadata-one (p ∙ sym q)
 
 pub metadata-MetadataObjectHeader-next-object-location-one : One metadata-MetadataObjectHeader-next-object-location.Post (λ _ r e r′ e′. r ≡ r′)
-metadata-MetadataObjectHeader-next-object-location-one _ _ r r′ e e′ p q = p ∙ sym q
+metadata-MetadataObjectHeader-next-object-location-one _ _ r r′ e e′ p q = next-location-one (p ∙ sym q)
 
 pub metadata-MetadataObjectHeader-reset-one : One metadata-MetadataObjectHeader-reset.Post (λ _ r e r′ e′. r ≡ r′)
 metadata-MetadataObjectHeader-reset-one _ _ r r′ e e′ p q = p ∙ sym q
@@ -141,6 +143,9 @@ payload-is-same-one _ _ r r′ e e′ p q = p ∙ sym q
 pub reader-ReaderRead-number-one : One reader-ReaderRead-number.Post (λ _ r e r′ e′. r ≡ r′)
 reader-ReaderRead-number-one _ _ r r′ e e′ p q = p ∙ sym q
 
+pub reader-Reading-number-one : One reader-Reading-number.Post (λ _ r e r′ e′. r ≡ r′)
+reader-Reading-number-one _ _ r r′ e e′ p q = p ∙ sym q
+
 pub reader-ObjectReader-new-one : One reader-ObjectReader-new.Post (λ _ r e r′ e′. r ≡ r′)
 reader-ObjectReader-new-one _ _ r r′ e e′ p q = reader-one (p ∙ sym q)
 
@@ -154,7 +159,10 @@ pub reader-ObjectReader-rewind-one : One reader-ObjectReader-rewind.Post (λ _ r
 reader-ObjectReader-rewind-one _ _ r r′ e e′ p q = p ∙ sym q
 
 pub reader-ObjectReader-read-one : One reader-ObjectReader-read.Post (λ _ r e r′ e′. (r ≡ r′) × (now (e .1 .1 .1 .0) ≡ now (e′ .1 .1 .1 .0)))
-reader-ObjectReader-read-one _ _ r r′ e e′ p q = (p .0 ∙ sym (q .0), p .1 ∙ sym (q .1))
+reader-ObjectReader-read-one _ _ r r′ e e′ p q = (reading-one (p .0 ∙ sym (q .0)), p .1 ∙ sym (q .1))
+
+pub state-DataStateRead-number-one : One state-DataStateRead-number.Post (λ _ r e r′ e′. r ≡ r′)
+state-DataStateRead-number-one _ _ r r′ e e′ p q = p ∙ sym q
 
 pub state-StateRead-number-one : One state-StateRead-number.Post (λ _ r e r′ e′. r ≡ r′)
 state-StateRead-number-one _ _ r r′ e e′ p q = p ∙ sym q
@@ -166,7 +174,7 @@ pub state-ObjectDataState-rank-one : One state-ObjectDataState-rank.Post (λ _ r
 state-ObjectDataState-rank-one _ _ r r′ e e′ p q = p ∙ sym q
 
 pub state-ObjectDataState-of-marks-one : One state-ObjectDataState-of-marks.Post (λ _ r e r′ e′. r ≡ r′)
-state-ObjectDataState-of-marks-one _ _ r r′ e e′ p q = p ∙ sym q
+state-ObjectDataState-of-marks-one _ _ r r′ e e′ p q = data-state-one (p ∙ sym q)
 
 pub state-ObjectDataState-mark-at-one : One state-ObjectDataState-mark-at.Post (λ _ r e r′ e′. r ≡ r′)
 state-ObjectDataState-mark-at-one _ _ r r′ e e′ p q = p ∙ sym q
@@ -190,4 +198,4 @@ pub types-ObjectType-byte-one : One types-ObjectType-byte.Post (λ _ r e r′ e�
 types-ObjectType-byte-one _ _ r r′ e e′ p q = p ∙ sym q
 
 pub types-ObjectType-parse-one : One types-ObjectType-parse.Post (λ _ r e r′ e′. r ≡ r′)
-types-ObjectType-parse-one _ _ r r′ e e′ p q = p ∙ sym q
+types-ObjectType-parse-one _ _ r r′ e e′ p q = type-one (p ∙ sym q)

@@ -8,6 +8,7 @@ use native.Mathlib.Omega.{arith}
 use lib.ListN.{length, take}
 use lib.Seq.{take-all}
 use borrow.Author.Tests.{eq-eqb}
+use Rattle.medium.specs.All.{All}
 use Rattle.medium.specs.declared.granularity.Granularity.{Granularity}
 use Rattle.medium.specs.declared.geometry.Geometry.{Geometry}
 use Rattle.medium.specs.declared.fuse.Fuse.{Fuse}
@@ -26,14 +27,15 @@ use Rattle.objects.specs.declared.header.ObjectHeader.{ObjectHeader}
 use Rattle.objects.specs.Numbers.{bytes}
 use Rattle.objects.specs.Types.{typeByte}
 use Rattle.objects.specs.Header.{stateAt, allocatableOf, setState}
+use Rattle.objects.specs.Payload.{payloadAt}
 use Rattle.writer.specs.declared.writer.ObjectWriter.{ObjectWriter}
 use Rattle.writer.specs.Writer.{freshOf, allocate, finalize}
-use Rattle.writer.specs.Moving.{payloadAt, sourceAt, turnsOf, copying, copyObject, moveObject}
+use Rattle.writer.specs.Moving.{sourceAt, turnsOf, copying, copyObject, moveObject}
 use Rattle.powercut.specs.Demand.{addressOf, payloadIn, copyOf, unitsTo}
 use Rattle.powercut.specs.Stores.{typeUnits, payUnits, sizeUnits, markUnits, deleteUnits, before}
 use Rattle.powercut.specs.Again.{leftBy, goneOf, Resumes, Completes, Again}
 use Rattle.medium.proofs.Runs.{apply-append, run-bind, ask-on, ask-stop}
-use Rattle.medium.proofs.Bytes.{All, All-append, length-apply}
+use Rattle.medium.proofs.Bytes.{All-append, length-apply}
 use Rattle.medium.proofs.Places.{laid}
 use Rattle.medium.proofs.Programs.{Programs, store-programs, cut-twice}
 use Rattle.medium.proofs.Traced.{ran, state-cut, power-cut, same-cut}

@@ -10,6 +10,7 @@ use lib.Seq.{take-append-add}
 use lib.Bits.{bitAnd, and-zero-r}
 use Rattle.medium.specs.declared.granularity.Granularity.{Granularity}
 use Rattle.medium.specs.declared.granularity.Granularity.the-variants.{Bit, Word1, Word4}
+use Rattle.medium.specs.All.{All}
 use Rattle.medium.specs.Granularity.{widthOf, unitsIn, finishAt, deleteAt, finishMark, sizeAt, header}
 use Rattle.medium.specs.Units.{FlashUnit, unitsOf}
 use Rattle.medium.specs.Operation.{apply, done}
@@ -21,7 +22,7 @@ use Rattle.objects.specs.Types.{typeByte}
 use Rattle.powercut.specs.Demand.{Clear}
 use Rattle.powercut.specs.Stores.{typeUnits, payUnits, sizeUnits, markUnits, deleteUnits, before}
 use Rattle.medium.proofs.Runs.{apply-append, leb-is}
-use Rattle.medium.proofs.Bytes.{ff-and, Off, Misses, All, All-append, All-take, frame, store-miss, length-apply, length-units, stored, part-is, getD-part}
+use Rattle.medium.proofs.Bytes.{ff-and, Off, Misses, All-append, All-take, frame, store-miss, length-apply, length-units, stored, part-is, getD-part}
 use Rattle.medium.proofs.Programs.{pad-kept}
 use Rattle.medium.proofs.Frame.{part-same}
 use Rattle.medium.proofs.Places.{Laid, laid}

@@ -15,18 +15,17 @@ use Rattle.medium.specs.declared.fuse.Fuse.the-variants.{Absent, Units}
 use Rattle.medium.specs.Granularity.{pick, deleteAt, sizeAt, header, blockHeader}
 use Rattle.medium.specs.Geometry.{checkOf, address}
 use Rattle.medium.specs.Units.{FlashUnit}
-use Rattle.medium.specs.Operation.{apply, done, run}
+use Rattle.medium.specs.Operation.{Answer, apply, done, run}
 use Rattle.medium.specs.Medium.{part}
 use Rattle.objects.specs.declared.types.ObjectType.{ObjectType}
 use Rattle.objects.specs.declared.state.ObjectDataState.the-variants.{Untrusted, Deleted}
 use Rattle.objects.specs.declared.state.CompositeObjectState.the-variants.{Free, Allocated}
 use Rattle.objects.specs.declared.location.ObjectLocation.{ObjectLocation}
 use Rattle.objects.specs.declared.header.ObjectHeader.{ObjectHeader}
-use Rattle.objects.specs.declared.iterator.Next.{Next}
 use Rattle.objects.specs.Types.{typeByte}
 use Rattle.objects.specs.Header.{payloadOf}
 use Rattle.objects.specs.Info.{found, none, infoAt, totalOf, spanOf}
-use Rattle.objects.specs.Listing.{placed, nextIn, nextOf, Visit, listBy, listFrom, listing}
+use Rattle.objects.specs.Listing.{placed, Met, nextIn, nextOf, Visit, listBy, listFrom, listing}
 use Rattle.writer.specs.Moving.{moveObject}
 use Rattle.powercut.specs.Demand.{Whole, Unfinished, Gone, addressOf, payloadIn, copyOf, Clear, Movable, unitsTo, Framed, Survives, Moved, Demand}
 use Rattle.powercut.specs.Listed.{same, payloadRead, isCopy, countIn, copiesIn, copies, Listable, copiesAfter, copiesBefore, Counted, Listings}
@@ -166,7 +165,7 @@ module _ (g : Geometry) (h : ObjectHeader) (to : ObjectLocation) (room : ℕ) (t
         unwalk g src last fine-last (w .listed .before) start off (g .size) (walk-same g src img last (v .fine) (w .listed .before) start off (r .walked) f) (omega (arith, original-at .fuel))
         ∙ ap (λ (k : ℕ). w .listed .before ++ listFrom k g (placed src off) last .visits) n in
         let step : listFrom (suc left) g (placed src off) last .visits ≡ visit g src off (m .object) ∷ listFrom left g (placed src (off + sp)) last .visits =
-        ap (λ (k : Next). listBy k (placed src off) (λ j. listFrom left g j last) .visits) (next-object g src last fine-last off (m .object) (r .fits) (m .info))
+        ap (λ (k : Answer Met). listBy k (placed src off) (λ j. listFrom left g j last) .visits) (next-object g src last fine-last off (m .object) (r .fits) (m .info))
         ∙ ap (λ (k : ℕ). visit g src off (m .object) ∷ listFrom left g (placed src (off + k)) last .visits) object-span in
         ap (countIn g src t pay last) (visits ∙ ap (λ (k : List Visit). w .listed .before ++ k) step)
         ∙ count-append g src t pay last (w .listed .before) (visit g src off (m .object) ∷ listFrom left g (placed src (off + sp)) last .visits)
@@ -302,11 +301,11 @@ module _ (g : Geometry) (h : ObjectHeader) (to : ObjectLocation) (room : ℕ) (t
       go : (infoAt g to last ≡ done none) ⊎ (infoAt g to last ≡ done (found (record { state = Allocated t Untrusted; size = u .size; location = to })))
           → countIn g dst t pay last (listBy (nextOf g (placed dst (to .offset)) last) (placed dst (to .offset)) (λ j. listFrom n g j last) .visits) ≡ 0
       go (inl i) =
-          ap (λ (x : Next). countIn g dst t pay last (listBy x (placed dst (to .offset)) (λ j. listFrom n g j last) .visits))
+          ap (λ (x : Answer Met). countIn g dst t pay last (listBy x (placed dst (to .offset)) (λ j. listFrom n g j last) .visits))
           (next-in g dst last fine (to .offset) (header-fits) ∙ ap (nextIn g (placed dst (to .offset))) i)
       go (inr i) =
           let o : ObjectHeader = record { state = Allocated t Untrusted; size = u .size; location = to } in
-          ap (λ (x : Next). countIn g dst t pay last (listBy x (placed dst (to .offset)) (λ j. listFrom n g j last) .visits)) (next-object g dst last fine (to .offset) o (header-fits) i)
+          ap (λ (x : Answer Met). countIn g dst t pay last (listBy x (placed dst (to .offset)) (λ j. listFrom n g j last) .visits)) (next-object g dst last fine (to .offset) o (header-fits) i)
           ∙ ap₂ (λ (x : Bool) (c : ℕ). pick x 1 0 + c) (begun-counts g dst (to .offset) (u .size) to t pay last)
           (none-behind g dst last fine (v .block) t pay (to .offset) (header-fits) some n (to .offset + spanAt g dst o) (omega (arith, span-least g dst last fine o)))
 
@@ -315,7 +314,7 @@ module _ (g : Geometry) (h : ObjectHeader) (to : ObjectLocation) (room : ℕ) (t
       → Whole g (copyOf g h to) t pay last → (n : ℕ) → countIn g dst t pay last (listFrom (suc n) g (placed dst (to .offset)) last .visits) ≡ 1
   unfolding listFrom
   copied-tail last len framed c n =
-      ap (λ (x : Next). countIn g dst t pay last (listBy x (placed dst (to .offset)) (λ j. listFrom n g j last) .visits)) (next-object g dst last fine (to .offset) (copyOf g h to) (header-fits) (c .info))
+      ap (λ (x : Answer Met). countIn g dst t pay last (listBy x (placed dst (to .offset)) (λ j. listFrom n g j last) .visits)) (next-object g dst last fine (to .offset) (copyOf g h to) (header-fits) (c .info))
       ∙ ap₂ (λ (x : Bool) (i : ℕ). pick x 1 0 + i) (whole-counts g (copyOf g h to) t pay last small c)
       (ap (λ (i : ℕ). countIn g dst t pay last (listFrom n g (placed dst (to .offset + i)) last .visits)) copy-span ∙ nothing n)
     where
@@ -335,13 +334,13 @@ module _ (g : Geometry) (h : ObjectHeader) (to : ObjectLocation) (room : ℕ) (t
           at : (g .size ≤ to .offset + sp + header (g .granularity) (g .s)) ⊎ (to .offset + sp + header (g .granularity) (g .s) < g .size)
               → (p + (header (g .granularity) (g .s) + payloadOf (g .s) h) ≤ q) ⊎ (q + room ≤ p)
               → countIn g dst t pay last (listBy (nextOf g (placed dst (to .offset + sp)) last) (placed dst (to .offset + sp)) (λ j. listFrom n g j last) .visits) ≡ 0
-          at (inl x) d = ap (λ (y : Next). countIn g dst t pay last (listBy y (placed dst (to .offset + sp)) (λ j. listFrom n g j last) .visits)) (next-end g dst last fine (to .offset + sp) x)
+          at (inl x) d = ap (λ (y : Answer Met). countIn g dst t pay last (listBy y (placed dst (to .offset + sp)) (λ j. listFrom n g j last) .visits)) (next-end g dst last fine (to .offset + sp) x)
           at (inr x) d =
               let ad : address g dst (to .offset + sp) ≡ q + sp = omega arith in
               let byte : getD last (address g dst (to .offset + sp)) 0 ≡ 255 =
               ap (λ (i : ℕ). getD last i 0) ad ∙ framed (q + sp) (inr (omega arith)) (apart d) ∙ free-byte sp (omega arith) in
               let none-there : infoAt g (place g dst (to .offset + sp)) last ≡ done none = free-info g dst (to .offset + sp) last fine (v .block) (omega (arith, l)) byte in
-              ap (λ (y : Next). countIn g dst t pay last (listBy y (placed dst (to .offset + sp)) (λ j. listFrom n g j last) .visits))
+              ap (λ (y : Answer Met). countIn g dst t pay last (listBy y (placed dst (to .offset + sp)) (λ j. listFrom n g j last) .visits))
               (next-in g dst last fine (to .offset + sp) x ∙ ap (nextIn g (placed dst (to .offset + sp))) none-there)
             where
               apart : (p + (header (g .granularity) (g .s) + payloadOf (g .s) h) ≤ q) ⊎ (q + room ≤ p) → q + sp ≢ p + deleteAt (g .granularity)

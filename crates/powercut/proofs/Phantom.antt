@@ -25,13 +25,11 @@ use Rattle.objects.specs.declared.state.CompositeObjectState.the-variants.{Free
 use Rattle.objects.specs.declared.location.ObjectLocation.{ObjectLocation}
 use Rattle.objects.specs.declared.header.ObjectHeader.{ObjectHeader}
 use Rattle.objects.specs.declared.iterator.ObjectIterator.{ObjectIterator}
-use Rattle.objects.specs.declared.iterator.Next.{Next}
-use Rattle.objects.specs.declared.iterator.Next.the-variants as next
 use Rattle.objects.specs.Types.{typeByte}
 use Rattle.objects.specs.Header.{headerAt, payloadOf}
 use Rattle.objects.specs.Info.{Info, found, none, infoAt}
 use Rattle.objects.specs.Reader.{Chunk, readerAt, remainingOf, leftOf, readSome}
-use Rattle.objects.specs.Listing.{placed, nextOf, listBy, listFrom}
+use Rattle.objects.specs.Listing.{placed, Met, object, freePlace, blockEnd, nextOf, listBy, listFrom}
 use Rattle.powercut.specs.Demand.{readerOf}
 use Rattle.powercut.specs.Listed.{same, payloadRead, isPayload, isCopy, countIn}
 use Rattle.medium.proofs.Runs.{apply-append}
@@ -171,15 +169,15 @@ module _ (g : Geometry) (b : ℕ) (m : List ℕ) (fine : checkOf g (length m) �
     none-behind zero o h = refl
     none-behind (suc n) o h = go (nextOf g (placed b o) m) refl (λ y k. none-behind n y k)
       where
-        go : (x : Next) → nextOf g (placed b o) m ≡ x → ((y : ℕ) → to + header (g .granularity) (g .s) ≤ y → countIn g b t pay m (listFrom n g (placed b y) m .visits) ≡ 0)
+        go : (x : Answer Met) → nextOf g (placed b o) m ≡ x → ((y : ℕ) → to + header (g .granularity) (g .s) ≤ y → countIn g b t pay m (listFrom n g (placed b y) m .visits) ≡ 0)
             → countIn g b t pay m (listBy x (placed b o) (λ j. listFrom n g j m) .visits) ≡ 0
-        go (next.Object k j) q rec =
+        go (done (object k j)) q rec =
             let d : Stepped g b o m k j = next-back g b o m k j q in
             let at : k ≡ headerOf (k .state) (k .size) (place g b o) = ap (λ (x : ObjectLocation). headerOf (k .state) (k .size) x) (header-back g (place g b o) m k (info-back g b o m k (d .info)) .located) in
             let no : isCopy g b t pay m (visit g b o k) ≡ false =
             ap (λ (x : ObjectHeader). isCopy g b t pay m (visit g b o x)) at ∙ not-copy o (k .state) (k .size) h (d .info ∙ ap (λ (x : ObjectHeader). done (found x)) at) (d .fits) in
             ap₂ (λ (x : Bool) (i : ℕ). pick x 1 0 + i) no
             (subst (λ (x : ObjectIterator). countIn g b t pay m (listFrom n g x m .visits) ≡ 0) (d .behind) (rec (o + spanAt g b k) (omega arith)))
-        go next.Free q rec = refl
-        go next.End q rec = refl
-        go (next.Refused k) q rec = refl
+        go (done freePlace) q rec = refl
+        go (done blockEnd) q rec = refl
+        go (refused k) q rec = refl

@@ -20,7 +20,6 @@ use Rattle.medium.specs.Units.{FlashUnit}
 use Rattle.medium.specs.Operation.{apply, done, refused, run}
 use Rattle.medium.specs.Medium.{part}
 use Rattle.objects.specs.declared.types.ObjectType.{ObjectType}
-use Rattle.objects.specs.declared.types.TypeRead.the-variants as ty
 use Rattle.objects.specs.declared.state.ObjectDataState.the-variants.{Untrusted}
 use Rattle.objects.specs.declared.state.CompositeObjectState.the-variants.{Allocated}
 use Rattle.objects.specs.declared.location.ObjectLocation.{ObjectLocation}
@@ -67,12 +66,12 @@ number-ff : (xs : List ℕ) → ((i : ℕ) → i < length xs → getD xs i 0 ≡
 number-ff [] f = refl
 number-ff (x ∷ xs) f = omega (arith, pow-succ' 256 (length xs), f 0 (omega arith), number-ff xs (λ i c. f (suc i) (omega arith)))
 
-no-type : (bs : List ℕ) → Text bs → typeOf (getD bs 0 0) ≡ ty.Refused 2
+no-type : (bs : List ℕ) → Text bs → typeOf (getD bs 0 0) ≡ refused 2
 unfolding typeOf
 no-type bs x = rw (ne-eqb (getD bs 0 0) 0x8F (x .no-metadata), ne-eqb (getD bs 0 0) 0x8E (x .no-data), ne-eqb (getD bs 0 0) 0x8D (x .no-name), ne-eqb (getD bs 0 0) 0xFF (x .no-blank))
 
 -- a place whose first byte is no type
-broken-info : (g : Geometry) (b o : ℕ) (m : List ℕ) → checkOf g (length m) ≡ 0 → b < g .count → o + sizeAt (g .granularity) ≤ g .size → typeOf (getD m (address g b o) 0) ≡ ty.Refused 2
+broken-info : (g : Geometry) (b o : ℕ) (m : List ℕ) → checkOf g (length m) ≡ 0 → b < g .count → o + sizeAt (g .granularity) ≤ g .size → typeOf (getD m (address g b o) 0) ≡ refused 2
     → infoAt g (place g b o) m ≡ refused 2
 unfolding infoAt headerAt
 broken-info g b o m f hb fits e = rw (state-read g (place g b o) m f hb fits, e)

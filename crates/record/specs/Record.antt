@@ -4,9 +4,9 @@ use mathlib.Core.List.{List}
 use mathlib.Core.Bool.{Bool, _&&_}
 use lib.ListN.{length, getD}
 use lib.Dec.{eqb}
-use Rattle.medium.specs.declared.granularity.GranularityRead.{GranularityRead}
-use Rattle.medium.specs.declared.granularity.GranularityRead.the-variants as granularity
+use Rattle.medium.specs.declared.granularity.Granularity.{Granularity}
 use Rattle.medium.specs.Granularity.{pick, granularityOf}
+use Rattle.medium.specs.Operation.{Answer, done, refused}
 use Rattle.record.specs.declared.GeometryRead.{GeometryRead}
 use Rattle.record.specs.declared.GeometryRead.the-variants as read
 
@@ -22,9 +22,9 @@ wordAt raw i = getD raw i 0 + 256 * (getD raw (i + 1) 0 + 256 * (getD raw (i + 2
 unfoldable pub wellFormed : List ℕ → Bool
 wellFormed raw = eqb (length raw) 16 && eqb (getD raw 3 0) 0 && eqb (wordAt raw 12) 0
 
-abbrev pub fieldsOf : List ℕ → GranularityRead → GeometryRead
-fieldsOf raw (granularity.Got k) = read.Got (record { granularity = k; s = getD raw 1 0; c = getD raw 2 0; size = wordAt raw 4; count = wordAt raw 8 })
-fieldsOf raw (granularity.Refused n) = read.Refused n
+abbrev pub fieldsOf : List ℕ → Answer Granularity → GeometryRead
+fieldsOf raw (done k) = read.Got (record { granularity = k; s = getD raw 1 0; c = getD raw 2 0; size = wordAt raw 4; count = wordAt raw 8 })
+fieldsOf raw (refused n) = read.Refused n
 
 -- "A wrong record or geometry prints `refused 6`"
 unfoldable pub geometryOf : List ℕ → GeometryRead

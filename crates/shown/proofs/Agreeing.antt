@@ -1,5 +1,5 @@
 -- Headers, payloads and listings see only what stands from their place on in their block: images that agree there show the same.
-use mathlib.Core.Path.{_≡_, refl, sym, ap}
+use mathlib.Core.Path.{_≡_, refl, sym, ap, _∙_}
 use mathlib.Core.Bool.{Bool, true, false, _&&_, false≢true}
 use mathlib.Core.List.{List}
 use Prim.Native.Nat.{ℕ, zero, suc, _+_, _-_, _*_, _≤_, _<_, min}
@@ -9,24 +9,25 @@ use lib.ListN.{length, getD}
 use lib.Dec.{leb, ltb, eqb}
 use borrow.Author.Tests.{eqb-true, leb-true}
 use Rattle.medium.specs.declared.geometry.Geometry.{Geometry}
+use Rattle.medium.specs.All.{All}
 use Rattle.medium.specs.Granularity.{pick, sizeAt, header}
 use Rattle.medium.specs.Geometry.{checkOf, address}
-use Rattle.medium.specs.Operation.{Answer, done, refused, andThen, orRefuse}
+use Rattle.medium.specs.Operation.{happen, Answer, done, refused, andThen, orRefuse}
 use Rattle.medium.specs.Medium.{part, readable, readAt}
+use Rattle.medium.specs.Beside.{Event, Both, beside}
 use Rattle.medium.proofs.Frame.{part-same}
 use Rattle.medium.proofs.Checks.{admitted, picked, read-at, fine-of-check}
+use Rattle.medium.proofs.Beside.{Misses-event, bytes-stay, length-stays}
 use Rattle.objects.specs.declared.state.CompositeObjectState.{CompositeObjectState}
 use Rattle.objects.specs.declared.state.CompositeObjectState.the-variants as comp
 use Rattle.objects.specs.declared.location.ObjectLocation.{ObjectLocation}
 use Rattle.objects.specs.declared.header.ObjectHeader.{ObjectHeader}
 use Rattle.objects.specs.declared.iterator.ObjectIterator.{ObjectIterator}
-use Rattle.objects.specs.declared.iterator.Next.{Next}
-use Rattle.objects.specs.declared.iterator.Next.the-variants as next
 use Rattle.objects.specs.Numbers.{number}
 use Rattle.objects.specs.Types.{stateIn}
 use Rattle.objects.specs.Header.{stateAt, sizedAt, headerAt, payloadOf}
 use Rattle.objects.specs.Info.{Info, found, infoIn, infoAt}
-use Rattle.objects.specs.Listing.{startOf, nextIn, atEnd, nextOf, Listing, visited, listBy, listFrom, listing}
+use Rattle.objects.specs.Listing.{startOf, nextIn, atEnd, nextOf, Listing, visited, listBy, listFrom, listing, Met, object, freePlace, blockEnd}
 use Rattle.objects.specs.Reader.{Chunk, remainingOf, leftOf, moved, readSome}
 use Rattle.objects.proofs.Reading.{left-small}
 use Rattle.objects.proofs.Listing.{next-found, next-moves}
@@ -46,6 +47,15 @@ agree-of g b from to img other e f = record { long = e; same = λ o h k. f (addr
 
 pub agree-less : (g : Geometry) (b from to low high : ℕ) (img other : List ℕ) → Agree g b from to img other → from ≤ low → high ≤ to → Agree g b low high img other
 agree-less g b from to low high img other v h k = record { long = v .long; same = λ o x y. v .same o (omega arith) (omega arith) }
+
+-- events that miss those bytes leave the agreement
+pub agree-on : (g : Geometry) (b from to : ℕ) (img : List ℕ) (es : List Event) (s : Both) → Agree g b from to img (s .image)
+    → ((o : ℕ) → from ≤ o → o < to → All (Misses-event (address g b o)) es) → Agree g b from to img (happen beside es s .image)
+agree-on g b from to img es s v h =
+    record {
+      long = length-stays es s ∙ v .long;
+      same = λ o x y. bytes-stay (address g b o) 0 es s (h o x y) ∙ v .same o x y;
+    }
 
 -- ---- what a passed check tells
 
@@ -145,7 +155,7 @@ unfolding nextOf
 next-by g i img other l e = rw l (go (orRefuse (checkOf g (length img))))
   where
     go : (x : Answer (Unit {0})) → atEnd g i x other ≡ atEnd g i x img
-    go (done u) = ap (λ (y : Answer Info). pick (leb (g .size) (i .location .offset + header (g .granularity) (g .s))) next.End (nextIn g i y)) e
+    go (done u) = ap (λ (y : Answer Info). pick (leb (g .size) (i .location .offset + header (g .granularity) (g .s))) (done blockEnd) (nextIn g i y)) e
     go (refused n) = refl
 
 pub next-agree : (g : Geometry) (i : ObjectIterator) (img other : List ℕ) → Agree g (i .location .block) (i .location .offset) (g .size) img other → nextOf g i other ≡ nextOf g i img
@@ -157,16 +167,16 @@ unfolding listFrom
 list-agree zero g i img other v = refl
 list-agree (suc n) g i img other v = rw (next-agree g i img other v) (go (nextOf g i img) refl (λ j w. list-agree n g j img other w))
   where
-    go : (x : Next) → nextOf g i img ≡ x
+    go : (x : Answer Met) → nextOf g i img ≡ x
         → ((j : ObjectIterator) → Agree g (j .location .block) (j .location .offset) (g .size) img other → listFrom n g j other ≡ listFrom n g j img)
         → listBy x i (λ j. listFrom n g j other) ≡ listBy x i (λ j. listFrom n g j img)
-    go (next.Object h j) e more =
+    go (done (object h j)) e more =
         let m = next-moves g i img h j e in
         ap (λ (l : Listing). visited i h l)
         (more j (rw (m .block) (agree-less g (i .location .block) (i .location .offset) (g .size) (j .location .offset) (g .size) img other v (omega (arith, m .forward)) (le-refl (g .size)))))
-    go next.Free e more = refl
-    go next.End e more = refl
-    go (next.Refused k) e more = refl
+    go (done freePlace) e more = refl
+    go (done blockEnd) e more = refl
+    go (refused k) e more = refl
 
 -- of a whole block
 pub listing-agree : (g : Geometry) (b : ℕ) (img other : List ℕ) → Agree g b 0 (g .size) img other → listing g b other ≡ listing g b img
@@ -174,7 +184,7 @@ unfolding listing
 listing-agree g b img other v = list-agree (g .size) g (startOf g b) img other (agree-less g b 0 (g .size) _ (g .size) img other v (omega arith) (le-refl (g .size)))
 
 -- where an object is shown the check was passed
-pub found-short : (g : Geometry) (i : ObjectIterator) (img : List ℕ) (h : ObjectHeader) (j : ObjectIterator) → nextOf g i img ≡ next.Object h j → g .s ≤ 3
+pub found-short : (g : Geometry) (i : ObjectIterator) (img : List ℕ) (h : ObjectHeader) (j : ObjectIterator) → nextOf g i img ≡ done (object h j) → g .s ≤ 3
 found-short g i img h j e = short-size g (length img) (zero-of (checkOf g (length img)) tt (next-found g i img h j e .checked))
 
 -- an object that was found is at the place where it was looked for

@@ -17,18 +17,14 @@ use Rattle.medium.specs.Operation.{Answer, done, refused, andThen}
 use Rattle.medium.specs.Medium.{part, readable, readAt}
 use Rattle.objects.specs.declared.types.ObjectType.{ObjectType}
 use Rattle.objects.specs.declared.types.ObjectType.the-variants.{FileMetadata, FileData, FileName}
-use Rattle.objects.specs.declared.types.TypeRead.{TypeRead}
-use Rattle.objects.specs.declared.types.TypeRead.the-variants as ty
 use Rattle.objects.specs.declared.state.ObjectDataState.{ObjectDataState}
 use Rattle.objects.specs.declared.state.ObjectDataState.the-variants.{Untrusted, Valid, Deleted}
-use Rattle.objects.specs.declared.state.DataStateRead.{DataStateRead}
-use Rattle.objects.specs.declared.state.DataStateRead.the-variants as mark
 use Rattle.objects.specs.declared.state.CompositeObjectState.{CompositeObjectState}
 use Rattle.objects.specs.declared.state.CompositeObjectState.the-variants.{Free, Allocated}
 use Rattle.objects.specs.declared.location.ObjectLocation.{ObjectLocation}
 use Rattle.objects.specs.declared.header.ObjectHeader.{ObjectHeader}
 use Rattle.objects.specs.Numbers.{number, bytes, unsetOf}
-use Rattle.objects.specs.Types.{typeByte, typeOf, markOf, pairOf, marksOf, compositeOf, stateIn}
+use Rattle.objects.specs.Types.{typeByte, typeOf, markOf, pairOf, marksOf, compositeOf, stateIn, TypeSaid, typed, untyped}
 use Rattle.objects.specs.Header.{stateAt, sizedAt, headerAt, payloadOf}
 use Rattle.medium.proofs.Bytes.{getD-part, length-part}
 use Rattle.medium.proofs.Frame.{part-same}
@@ -51,7 +47,7 @@ pub record Stands (g : Granularity) (s a : ℕ) (st : CompositeObjectState) (siz
 
 -- ---- a state, and the bytes that it is read from
 
-pub type-read : (t : ObjectType) → typeOf (typeByte t) ≡ ty.Got t
+pub type-read : (t : ObjectType) → typeOf (typeByte t) ≡ done (typed t)
 unfolding typeOf
 type-read FileMetadata = refl
 type-read FileData = refl
@@ -62,12 +58,12 @@ type-small FileMetadata = omega arith
 type-small FileData = omega arith
 type-small FileName = omega arith
 
-pub type-back : (b : ℕ) (t : ObjectType) → typeOf b ≡ ty.Got t → b ≡ typeByte t
+pub type-back : (b : ℕ) (t : ObjectType) → typeOf b ≡ done (typed t) → b ≡ typeByte t
 unfolding typeOf
 type-back b t h = go (eqb b 0x8F) (eqb b 0x8E) (eqb b 0x8D) (eqb b 0xFF) refl refl refl h
   where
     go : (x y z f : Bool) → eqb b 0x8F ≡ x → eqb b 0x8E ≡ y → eqb b 0x8D ≡ z
-        → pick x (ty.Got FileMetadata) (pick y (ty.Got FileData) (pick z (ty.Got FileName) (pick f ty.Free (ty.Refused 2)))) ≡ ty.Got t → b ≡ typeByte t
+        → pick x (done (typed FileMetadata)) (pick y (done (typed FileData)) (pick z (done (typed FileName)) (pick f (done untyped) (refused 2)))) ≡ done (typed t) → b ≡ typeByte t
     go true y z f p q r h = let e : FileMetadata ≡ t = cc in eqb-true b 0x8F p ∙ ap typeByte e
     go false true z f p q r h = let e : FileData ≡ t = cc in eqb-true b 0x8E q ∙ ap typeByte e
     go false false true f p q r h = let e : FileName ≡ t = cc in eqb-true b 0x8D r ∙ ap typeByte e
@@ -76,55 +72,55 @@ type-back b t h = go (eqb b 0x8F) (eqb b 0x8E) (eqb b 0x8D) (eqb b 0xFF) refl re
 
 pub record Shown (g : Granularity) (b f d : ℕ) (t : ObjectType) (st : ObjectDataState) : Type 0 where
   pub type-is : b ≡ typeByte t
-  pub mark-is : marksOf g f d ≡ mark.Got st
+  pub mark-is : marksOf g f d ≡ done st
 
 pub shown : (g : Granularity) (b f d : ℕ) (t : ObjectType) (st : ObjectDataState) → compositeOf (typeOf b) (marksOf g f d) ≡ done (Allocated t st) → Shown g b f d t st
 shown g b f d t st h = go (typeOf b) (marksOf g f d) refl refl h
   where
-    go : (x : TypeRead) (m : DataStateRead) → typeOf b ≡ x → marksOf g f d ≡ m → compositeOf x m ≡ done (Allocated t st) → Shown g b f d t st
-    go (ty.Got u) (mark.Got v) p q r =
+    go : (x : Answer TypeSaid) (m : Answer ObjectDataState) → typeOf b ≡ x → marksOf g f d ≡ m → compositeOf x m ≡ done (Allocated t st) → Shown g b f d t st
+    go (done (typed u)) (done v) p q r =
         let e : u ≡ t = cc in
         let n : v ≡ st = cc in
-        record { type-is = type-back b t (p ∙ ap ty.Got e); mark-is = q ∙ ap mark.Got n }
-    go (ty.Got u) (mark.Refused k) p q r = let z : _≡_ {A = ℕ} 0 1 = cc in absurd (omega arith)
-    go ty.Free m p q r = let z : _≡_ {A = ℕ} 0 1 = cc in absurd (omega arith)
-    go (ty.Refused k) m p q r = let z : _≡_ {A = ℕ} 0 1 = cc in absurd (omega arith)
+        record { type-is = type-back b t (p ∙ ap (λ (x : ObjectType). done (typed x)) e); mark-is = q ∙ ap (λ (x : ObjectDataState). done x) n }
+    go (done (typed u)) (refused k) p q r = let z : _≡_ {A = ℕ} 0 1 = cc in absurd (omega arith)
+    go (done untyped) m p q r = let z : _≡_ {A = ℕ} 0 1 = cc in absurd (omega arith)
+    go (refused k) m p q r = let z : _≡_ {A = ℕ} 0 1 = cc in absurd (omega arith)
 
 pub seen-object : (g : Granularity) (a : ℕ) (img : List ℕ) (t : ObjectType) (f d : ℕ) (st : ObjectDataState) → getD img a 0 ≡ typeByte t → getD img (a + finishAt g) 0 ≡ f
-    → getD img (a + deleteAt g) 0 ≡ d → marksOf g f d ≡ mark.Got st → stateSeen g a img ≡ done (Allocated t st)
+    → getD img (a + deleteAt g) 0 ≡ d → marksOf g f d ≡ done st → stateSeen g a img ≡ done (Allocated t st)
 seen-object g a img t f d st p q r m = rw (p, q, r, m, type-read t)
 
 pub seen-free : (g : Granularity) (a : ℕ) (img : List ℕ) → getD img a 0 ≡ 255 → stateSeen g a img ≡ done Free
 unfolding typeOf
 seen-free g a img p = rw p
 
-pub blank-marks : (g : Granularity) → marksOf g 255 255 ≡ mark.Got Untrusted
+pub blank-marks : (g : Granularity) → marksOf g 255 255 ≡ done Untrusted
 unfolding marksOf markOf pairOf
 blank-marks Bit = refl
 blank-marks Word1 = refl
 blank-marks Word4 = refl
 
 -- the finish mark of a valid pair is 00, so the delete mark makes it a deleted pair
-pair-deleted : (f d : ℕ) → pairOf f d ≡ mark.Got Valid → pairOf f 0 ≡ mark.Got Deleted
+pair-deleted : (f d : ℕ) → pairOf f d ≡ done Valid → pairOf f 0 ≡ done Deleted
 unfolding pairOf
 pair-deleted f d h = go (eqb f 255) (eqb f 0) (eqb d 255) (eqb d 0) h
   where
-    go : (x y u v : Bool) → pick x (pick u (mark.Got Untrusted) (mark.Refused 2)) (pick y (pick u (mark.Got Valid) (pick v (mark.Got Deleted) (mark.Refused 2))) (mark.Refused 2)) ≡ mark.Got Valid
-        → pick x (mark.Refused 2) (pick y (mark.Got Deleted) (mark.Refused 2)) ≡ mark.Got Deleted
+    go : (x y u v : Bool) → pick x (pick u (done Untrusted) (refused 2)) (pick y (pick u (done Valid) (pick v (done Deleted) (refused 2))) (refused 2)) ≡ done Valid
+        → pick x (refused 2) (pick y (done Deleted) (refused 2)) ≡ done Deleted
     go true y true v r = let z : _≡_ {A = ℕ} 0 1 = cc in absurd (omega arith)
     go true y false v r = let z : _≡_ {A = ℕ} 0 1 = cc in absurd (omega arith)
     go false true u v r = refl
     go false false u v r = let z : _≡_ {A = ℕ} 0 1 = cc in absurd (omega arith)
 
 -- the marks that a finish and a delete leave, whether the two share a byte or lie apart
-pub mark-valid : (g : Granularity) (x : ℕ) → (finishAt g + widthOf g ≤ deleteAt g → x ≡ 255) → marksOf g (finishMark g) x ≡ mark.Got Valid
+pub mark-valid : (g : Granularity) (x : ℕ) → (finishAt g + widthOf g ≤ deleteAt g → x ≡ 255) → marksOf g (finishMark g) x ≡ done Valid
 unfolding marksOf markOf pairOf
 mark-valid Bit x h = refl
 mark-valid Word1 x h = rw (h (omega arith))
 mark-valid Word4 x h = rw (h (omega arith))
 
-pub mark-deleted : (g : Granularity) (f d x : ℕ) → marksOf g f d ≡ mark.Got Valid → (finishAt g + widthOf g ≤ deleteAt g → x ≡ f) → (finishAt g ≡ deleteAt g → x ≡ 0)
-    → marksOf g x 0 ≡ mark.Got Deleted
+pub mark-deleted : (g : Granularity) (f d x : ℕ) → marksOf g f d ≡ done Valid → (finishAt g + widthOf g ≤ deleteAt g → x ≡ f) → (finishAt g ≡ deleteAt g → x ≡ 0)
+    → marksOf g x 0 ≡ done Deleted
 unfolding marksOf markOf
 mark-deleted Bit f d x m h k = rw (k refl)
 mark-deleted Word1 f d x m h k = rw (h (omega arith)) (pair-deleted f d m)

@@ -11,9 +11,8 @@ use Rattle.medium.specs.Granularity.{header}
 use Rattle.medium.specs.Geometry.{checkOf}
 use Rattle.medium.specs.Operation.{Answer, done, refused}
 use Rattle.objects.specs.declared.header.ObjectHeader.{ObjectHeader}
-use Rattle.objects.specs.declared.iterator.Next.{Next}
 use Rattle.objects.specs.Info.{Info, found, none, infoAt}
-use Rattle.objects.specs.Listing.{placed, nextIn, Visit, end, free, broken, Listing, stopped, visited, listBy, listFrom}
+use Rattle.objects.specs.Listing.{placed, nextIn, Visit, end, free, broken, Listing, stopped, visited, listBy, listFrom, Met}
 use Rattle.medium.proofs.Runs.{leb-is}
 use Rattle.shown.proofs.Walk.{place, spanAt, next-in, next-end, Walked}
 
@@ -21,22 +20,22 @@ module _ (g : Geometry) (b : ℕ) (m : List ℕ) (fine : checkOf g (length m) �
   -- no header fits here any more
   pub at-end : (n o : ℕ) → g .size ≤ o + header (g .granularity) (g .s) → listFrom (suc n) g (placed b o) m ≡ stopped (placed b o) end
   unfolding listFrom
-  at-end n o h = ap (λ (x : Next). listBy x (placed b o) (λ j. listFrom n g j m)) (next-end g b m fine o h)
+  at-end n o h = ap (λ (x : Answer Met). listBy x (placed b o) (λ j. listFrom n g j m)) (next-end g b m fine o h)
 
   module _ (n o : ℕ) (fits : o + header (g .granularity) (g .s) < g .size) where
     -- an object is visited, and the listing goes on behind it
     pub at-object : (h : ObjectHeader) → infoAt g (place g b o) m ≡ done (found h) → listFrom (suc n) g (placed b o) m ≡ visited (placed b o) h (listFrom n g (placed b (o + spanAt g b h)) m)
     unfolding listFrom
-    at-object h i = ap (λ (x : Next). listBy x (placed b o) (λ j. listFrom n g j m)) (next-in g b m fine o fits ∙ ap (nextIn g (placed b o)) i)
+    at-object h i = ap (λ (x : Answer Met). listBy x (placed b o) (λ j. listFrom n g j m)) (next-in g b m fine o fits ∙ ap (nextIn g (placed b o)) i)
 
     -- a free place, or bytes that are no header, ends it
     pub at-free : infoAt g (place g b o) m ≡ done none → listFrom (suc n) g (placed b o) m ≡ stopped (placed b o) free
     unfolding listFrom
-    at-free i = ap (λ (x : Next). listBy x (placed b o) (λ j. listFrom n g j m)) (next-in g b m fine o fits ∙ ap (nextIn g (placed b o)) i)
+    at-free i = ap (λ (x : Answer Met). listBy x (placed b o) (λ j. listFrom n g j m)) (next-in g b m fine o fits ∙ ap (nextIn g (placed b o)) i)
 
     pub at-broken : (k : ℕ) → infoAt g (place g b o) m ≡ refused k → listFrom (suc n) g (placed b o) m ≡ stopped (placed b o) (broken k)
     unfolding listFrom
-    at-broken k i = ap (λ (x : Next). listBy x (placed b o) (λ j. listFrom n g j m)) (next-in g b m fine o fits ∙ ap (nextIn g (placed b o)) i)
+    at-broken k i = ap (λ (x : Answer Met). listBy x (placed b o) (λ j. listFrom n g j m)) (next-in g b m fine o fits ∙ ap (nextIn g (placed b o)) i)
 
   -- where a listing stops at a free place, a header fits
   pub free-fits : (n o : ℕ) → listFrom n g (placed b o) m .stop ≡ free → listFrom n g (placed b o) m .last + header (g .granularity) (g .s) < g .size

@@ -15,11 +15,9 @@ use Rattle.objects.specs.declared.state.CompositeObjectState.the-variants.{Free
 use Rattle.objects.specs.declared.location.ObjectLocation.{ObjectLocation}
 use Rattle.objects.specs.declared.header.ObjectHeader.{ObjectHeader}
 use Rattle.objects.specs.declared.iterator.ObjectIterator.{ObjectIterator}
-use Rattle.objects.specs.declared.iterator.Next.{Next}
-use Rattle.objects.specs.declared.iterator.Next.the-variants as next
 use Rattle.objects.specs.Header.{headerAt, payloadOf}
 use Rattle.objects.specs.Info.{Info, found, infoIn, infoAt, totalOf, spanOf}
-use Rattle.objects.specs.Listing.{placed, nextIn, nextOf, Visit, free, Listing, visited, listBy, listFrom}
+use Rattle.objects.specs.Listing.{placed, nextIn, nextOf, Visit, free, Listing, visited, listBy, listFrom, Met, object, freePlace, blockEnd}
 use Rattle.medium.proofs.Places.{Laid, laid}
 use Rattle.medium.proofs.Checks.{Sound, fine-of-check}
 use Rattle.objects.proofs.Listing.{next-found}
@@ -43,7 +41,7 @@ module _ (g : Geometry) (b : ℕ) where
     pub behind : placed b (o + spanAt h) ≡ j
     pub fits : o + header (g .granularity) (g .s) < g .size
 
-  pub next-back : (o : ℕ) (m : List ℕ) (h : ObjectHeader) (j : ObjectIterator) → nextOf g (placed b o) m ≡ next.Object h j → Stepped o m h j
+  pub next-back : (o : ℕ) (m : List ℕ) (h : ObjectHeader) (j : ObjectIterator) → nextOf g (placed b o) m ≡ done (object h j) → Stepped o m h j
   next-back o m h j e = let f = next-found g (placed b o) m h j e in record { info = f .object; behind = sym (f .then); fits = f .fits }
 
   module _ (m : List ℕ) (fine : checkOf g (length m) ≡ 0) where
@@ -51,12 +49,12 @@ module _ (g : Geometry) (b : ℕ) where
     unfolding nextOf
     next-in o f = rw (fine, lt-leb (g .size) (o + header (g .granularity) (g .s)) f)
 
-    pub next-end : (o : ℕ) → g .size ≤ o + header (g .granularity) (g .s) → nextOf g (placed b o) m ≡ next.End
+    pub next-end : (o : ℕ) → g .size ≤ o + header (g .granularity) (g .s) → nextOf g (placed b o) m ≡ done blockEnd
     unfolding nextOf
     next-end o f = rw (fine, le-leb (g .size) (o + header (g .granularity) (g .s)) f)
 
     pub next-object : (o : ℕ) (h : ObjectHeader) → o + header (g .granularity) (g .s) < g .size → infoAt g (place o) m ≡ done (found h)
-        → nextOf g (placed b o) m ≡ next.Object h (placed b (o + spanAt h))
+        → nextOf g (placed b o) m ≡ done (object h (placed b (o + spanAt h)))
     next-object o h f i = next-in o f ∙ ap (nextIn g (placed b o)) i
 
     sound : Sound g
@@ -95,7 +93,7 @@ module _ (g : Geometry) (b : ℕ) where
     unwalk (v ∷ vs) o e zero w h = absurd (omega arith)
     unwalk (v ∷ vs) o e (suc n) w h =
         let k : n - length vs ≡ suc n - suc (length vs) = omega arith in
-        ap (λ (x : Next). listBy x (placed b o) (λ j. listFrom n g j m) .visits) (next-object g b m fine o (v .object) (w .2) (w .1))
+        ap (λ (x : Answer Met). listBy x (placed b o) (λ j. listFrom n g j m) .visits) (next-object g b m fine o (v .object) (w .2) (w .1))
         ∙ ap₂ (λ (x : ℕ) (xs : List Visit). visit g b x (v .object) ∷ xs) (sym (w .0)) (unwalk vs (o + spanAt g b (v .object)) e n (w .3) (omega arith))
         ∙ ap (λ (x : ℕ). v ∷ (vs ++ listFrom x g (placed b e) m .visits)) k
 
@@ -115,17 +113,17 @@ module _ (g : Geometry) (b : ℕ) where
     pub last : listFrom left g (placed b (v .offset + spanAt g b (v .object))) m .last ≡ listFrom n g (placed b o) m .last
     pub stop : listFrom left g (placed b (v .offset + spanAt g b (v .object))) m .stop ≡ listFrom n g (placed b o) m .stop
 
-  module _ (n : ℕ) (m : List ℕ) (o : ℕ) (h : ObjectHeader) (q : nextOf g (placed b o) m ≡ next.Object h (placed b (o + spanAt g b h))) where
+  module _ (n : ℕ) (m : List ℕ) (o : ℕ) (h : ObjectHeader) (q : nextOf g (placed b o) m ≡ done (object h (placed b (o + spanAt g b h)))) where
     stepped : Stepped g b o m h (placed b (o + spanAt g b h))
     stepped = next-back g b o m h (placed b (o + spanAt g b h)) q
 
     goes : (f : Listing → ℕ) → f (listFrom (suc n) g (placed b o) m) ≡ f (visited (placed b o) h (listFrom n g (placed b (o + spanAt g b h)) m))
     unfolding listFrom
-    goes f = ap (λ (x : Next). f (listBy x (placed b o) (λ j. listFrom n g j m))) q
+    goes f = ap (λ (x : Answer Met). f (listBy x (placed b o) (λ j. listFrom n g j m))) q
 
     stops : listFrom (suc n) g (placed b o) m .stop ≡ listFrom n g (placed b (o + spanAt g b h)) m .stop
     unfolding listFrom
-    stops = ap (λ (x : Next). listBy x (placed b o) (λ j. listFrom n g j m) .stop) q
+    stops = ap (λ (x : Answer Met). listBy x (placed b o) (λ j. listFrom n g j m) .stop) q
 
     at-once : Reached (suc n) m o [] (listFrom n g (placed b (o + spanAt g b h)) m .visits) (visit g b o h)
     at-once =
@@ -159,26 +157,26 @@ module _ (g : Geometry) (b : ℕ) where
   reached zero m o (u ∷ us) after v e = let z : _≡_ {A = ℕ} 0 1 = cc in absurd (omega arith)
   reached (suc n) m o before after v e = go (nextOf g (placed b o) m) refl before e (λ x us k. reached n m x us after v k)
     where
-      go : (x : Next) → nextOf g (placed b o) m ≡ x → (before : List Visit) → listBy x (placed b o) (λ j. listFrom n g j m) .visits ≡ before ++ v ∷ after
+      go : (x : Answer Met) → nextOf g (placed b o) m ≡ x → (before : List Visit) → listBy x (placed b o) (λ j. listFrom n g j m) .visits ≡ before ++ v ∷ after
           → ((y : ℕ) (us : List Visit) → listFrom n g (placed b y) m .visits ≡ us ++ v ∷ after → Reached n m y us after v) → Reached (suc n) m o before after v
-      go (next.Object h j) q [] r rec =
+      go (done (object h j)) q [] r rec =
           let s : placed b (o + spanAt g b h) ≡ j = next-back g b o m h j q .behind in
           let i : visit g b o h ≡ v = cc in
           let k : listFrom n g j m .visits ≡ after = cc in
           subst (λ (x : List Visit). Reached (suc n) m o [] x v) (ap (λ (x : ObjectIterator). listFrom n g x m .visits) s ∙ k)
-          (subst (λ (x : Visit). Reached (suc n) m o [] (listFrom n g (placed b (o + spanAt g b h)) m .visits) x) i (at-once n m o h (q ∙ ap (next.Object h) (sym s))))
-      go (next.Object h j) q (u ∷ us) r rec =
+          (subst (λ (x : Visit). Reached (suc n) m o [] (listFrom n g (placed b (o + spanAt g b h)) m .visits) x) i (at-once n m o h (q ∙ ap (λ (x : ObjectIterator). done (object h x)) (sym s))))
+      go (done (object h j)) q (u ∷ us) r rec =
           let s : placed b (o + spanAt g b h) ≡ j = next-back g b o m h j q .behind in
           let i : visit g b o h ≡ u = cc in
           let k : listFrom n g j m .visits ≡ us ++ v ∷ after = cc in
           subst (λ (x : Visit). Reached (suc n) m o (x ∷ us) after v) i
-          (one-more n m o h (q ∙ ap (next.Object h) (sym s)) us after v (rec (o + spanAt g b h) us (ap (λ (x : ObjectIterator). listFrom n g x m .visits) s ∙ k)))
-      go next.Free q [] r rec = let z : _≡_ {A = ℕ} 0 1 = cc in absurd (omega arith)
-      go next.Free q (u ∷ us) r rec = let z : _≡_ {A = ℕ} 0 1 = cc in absurd (omega arith)
-      go next.End q [] r rec = let z : _≡_ {A = ℕ} 0 1 = cc in absurd (omega arith)
-      go next.End q (u ∷ us) r rec = let z : _≡_ {A = ℕ} 0 1 = cc in absurd (omega arith)
-      go (next.Refused k) q [] r rec = let z : _≡_ {A = ℕ} 0 1 = cc in absurd (omega arith)
-      go (next.Refused k) q (u ∷ us) r rec = let z : _≡_ {A = ℕ} 0 1 = cc in absurd (omega arith)
+          (one-more n m o h (q ∙ ap (λ (x : ObjectIterator). done (object h x)) (sym s)) us after v (rec (o + spanAt g b h) us (ap (λ (x : ObjectIterator). listFrom n g x m .visits) s ∙ k)))
+      go (done freePlace) q [] r rec = let z : _≡_ {A = ℕ} 0 1 = cc in absurd (omega arith)
+      go (done freePlace) q (u ∷ us) r rec = let z : _≡_ {A = ℕ} 0 1 = cc in absurd (omega arith)
+      go (done blockEnd) q [] r rec = let z : _≡_ {A = ℕ} 0 1 = cc in absurd (omega arith)
+      go (done blockEnd) q (u ∷ us) r rec = let z : _≡_ {A = ℕ} 0 1 = cc in absurd (omega arith)
+      go (refused k) q [] r rec = let z : _≡_ {A = ℕ} 0 1 = cc in absurd (omega arith)
+      go (refused k) q (u ∷ us) r rec = let z : _≡_ {A = ℕ} 0 1 = cc in absurd (omega arith)
 
   -- a listing that stops at a free place walked up to it
   pub ended : (n : ℕ) (m : List ℕ) (o e : ℕ) → listFrom n g (placed b o) m .stop ≡ free → listFrom n g (placed b o) m .last ≡ e → Walked m o (listFrom n g (placed b o) m .visits) e
@@ -186,10 +184,10 @@ module _ (g : Geometry) (b : ℕ) where
   ended zero m o e s l = let z : _≡_ {A = ℕ} 0 1 = cc in absurd (omega arith)
   ended (suc n) m o e s l = go (nextOf g (placed b o) m) refl s l (λ x u v. ended n m x e u v)
     where
-      go : (x : Next) → nextOf g (placed b o) m ≡ x → listBy x (placed b o) (λ j. listFrom n g j m) .stop ≡ free → listBy x (placed b o) (λ j. listFrom n g j m) .last ≡ e
+      go : (x : Answer Met) → nextOf g (placed b o) m ≡ x → listBy x (placed b o) (λ j. listFrom n g j m) .stop ≡ free → listBy x (placed b o) (λ j. listFrom n g j m) .last ≡ e
           → ((y : ℕ) → listFrom n g (placed b y) m .stop ≡ free → listFrom n g (placed b y) m .last ≡ e → Walked m y (listFrom n g (placed b y) m .visits) e)
           → Walked m o (listBy x (placed b o) (λ j. listFrom n g j m) .visits) e
-      go (next.Object h j) q s l rec =
+      go (done (object h j)) q s l rec =
           let d : Stepped g b o m h j = next-back g b o m h j q in (
             refl,
             d .info,
@@ -197,9 +195,9 @@ module _ (g : Geometry) (b : ℕ) where
             subst (λ (x : ObjectIterator). Walked m (o + spanAt g b h) (listFrom n g x m .visits) e) (d .behind)
                 (rec (o + spanAt g b h) (ap (λ (x : ObjectIterator). listFrom n g x m .stop) (d .behind) ∙ s) (ap (λ (x : ObjectIterator). listFrom n g x m .last) (d .behind) ∙ l)),
           )
-      go next.Free q s l rec = l
-      go next.End q s l rec = let z : _≡_ {A = ℕ} 0 1 = cc in absurd (omega arith)
-      go (next.Refused k) q s l rec = let z : _≡_ {A = ℕ} 0 1 = cc in absurd (omega arith)
+      go (done freePlace) q s l rec = l
+      go (done blockEnd) q s l rec = let z : _≡_ {A = ℕ} 0 1 = cc in absurd (omega arith)
+      go (refused k) q s l rec = let z : _≡_ {A = ℕ} 0 1 = cc in absurd (omega arith)
 
   -- images that agree there have it in common
   pub walk-same : (img other : List ℕ) → checkOf g (length img) ≡ 0 → (vs : List Visit) (o e : ℕ) → Walked img o vs e → Agree g b o e img other → Walked other o vs e

@@ -39,7 +39,7 @@ enum-known-n : tie.Need-enum-known-n Inv-loop μ-loop
 enum-known-n c = search needs
 
 returns-2 : tie.Need-returns-2 Inv-loop μ-loop
-returns-2 c = sym (c .before .before .before .before .loop .inv .2 ∙ sum-broken _ _ (sym (c .before .before .before .before .before .before .before .check .ensures) ∙ c .before .before .before .before .before .before .if1 .left) _ _ (c .before .before .before .next .ensures) _ _ (c .before .n .given .1))
+returns-2 c = sym (c .before .before .before .before .loop .inv .2 ∙ sum-broken _ _ (sym (c .before .before .before .before .before .before .before .check .ensures) ∙ c .before .before .before .before .before .before .if1 .left) _ _ _ (rw (c .before .n .given .1) at (c .before .before .before .next .ensures)))
 
 enum-told : tie.Need-enum-told Inv-loop μ-loop
 enum-told c = search needs
@@ -48,7 +48,7 @@ sum-requires : tie.Need-sum-requires Inv-loop μ-loop
 sum-requires c κs = omega (arith, c .before .before .before .loop .inv)
 
 returns-3 : tie.Need-returns-3 Inv-loop μ-loop
-returns-3 c = c .sum .ensures ∙ sym (c .before .before .before .before .loop .inv .2 ∙ sum-free _ _ (sym (c .before .before .before .before .before .before .before .check .ensures) ∙ c .before .before .before .before .before .before .if1 .left) _ _ (c .before .before .before .next .ensures) _ (c .before .enum-told .given .1))
+returns-3 c = c .sum .ensures ∙ sym (c .before .before .before .before .loop .inv .2 ∙ sum-free _ _ (sym (c .before .before .before .before .before .before .before .check .ensures) ∙ c .before .before .before .before .before .before .if1 .left) _ _ (rw (c .before .enum-told .given .1) at (c .before .before .before .next .ensures)))
 
 enum-told-2 : tie.Need-enum-told-2 Inv-loop μ-loop
 enum-told-2 c = search needs
@@ -57,7 +57,7 @@ sum-requires-2 : tie.Need-sum-requires-2 Inv-loop μ-loop
 sum-requires-2 c κs = omega (arith, c .before .before .before .loop .inv)
 
 returns-4 : tie.Need-returns-4 Inv-loop μ-loop
-returns-4 c = c .sum2 .ensures ∙ sym (c .before .before .before .before .loop .inv .2 ∙ sum-end _ _ (sym (c .before .before .before .before .before .before .before .check .ensures) ∙ c .before .before .before .before .before .before .if1 .left) _ _ (c .before .before .before .next .ensures) _ (c .before .enum-told2 .given .1))
+returns-4 c = c .sum2 .ensures ∙ sym (c .before .before .before .before .loop .inv .2 ∙ sum-end _ _ (sym (c .before .before .before .before .before .before .before .check .ensures) ∙ c .before .before .before .before .before .before .if1 .left) _ _ (rw (c .before .enum-told2 .given .1) at (c .before .before .before .next .ensures)))
 
 enum-known-n-2 : tie.Need-enum-known-n-2 Inv-loop μ-loop
 enum-known-n-2 c = search needs
@@ -69,15 +69,15 @@ add-deleted : tie.Need-add-deleted Inv-loop μ-loop
 add-deleted c = omega (arith, c .freeable .ensures .1, c .before .before .before .before .before .loop .inv)
 
 loop-less : tie.Need-loop-less Inv-loop μ-loop
-loop-less c = let v = next-moves _ _ _ _ _ (sym (c .before .before .before .before .next .ensures) ∙ c .before .before .n2 .given .1) in omega (arith, v .forward, v .within, header-some (c .before .before .before .before .before .before .before .before .before .before .args .g .granularity) (c .before .before .before .before .before .before .before .before .before .before .args .g .s))
+loop-less c = let v = next-moves _ _ _ _ _ (sym (rw (c .before .before .n2 .given .1) at (c .before .before .before .before .next .ensures))) in omega (arith, v .forward, v .within, header-some (c .before .before .before .before .before .before .before .before .before .before .args .g .granularity) (c .before .before .before .before .before .before .before .before .before .before .args .g .s))
 
 loop-again : tie.Need-loop-again Inv-loop μ-loop
 loop-again c =
-    let v = next-found _ _ _ _ _ (sym (c .before .before .before .before .next .ensures) ∙ c .before .before .n2 .given .1) in
+    let v = next-found _ _ _ _ _ (sym (rw (c .before .before .n2 .given .1) at (c .before .before .before .before .next .ensures))) in
     let o : c .before .before .n2 .given .0 .1 .0 .location .offset ≡ c .before .before .before .before .before .loop .i .location .offset + spanOf (c .before .before .before .before .before .before .before .before .before .before .args .g .granularity) (c .before .before .before .before .before .before .before .before .before .before .args .g .s) (c .before .before .n2 .given .0 .0) = ap (λ (x : ObjectIterator). x .location .offset) (v .then) in (
       omega (arith, o, c .before .before .before .before .before .loop .inv .0, c .freeable .ensures .0, freed-most (c .before .before .before .before .before .before .before .before .before .before .args .g .granularity) (c .before .before .before .before .before .before .before .before .before .before .args .g .s) (c .before .before .n2 .given .0 .0)),
       omega arith,
-      c .before .before .before .before .before .loop .inv .2 ∙ sum-more _ _ (sym (c .before .before .before .before .before .before .before .before .check .ensures) ∙ c .before .before .before .before .before .before .before .if1 .left) _ _ (c .before .before .before .before .next .ensures) _ _ _ (c .before .before .n2 .given .1) ∙ rw (c .freeable .ensures .0),
+      c .before .before .before .before .before .loop .inv .2 ∙ sum-more _ _ (sym (c .before .before .before .before .before .before .before .before .check .ensures) ∙ c .before .before .before .before .before .before .before .if1 .left) _ _ _ _ (rw (c .before .before .n2 .given .1) at (c .before .before .before .before .next .ensures)) ∙ rw (c .freeable .ensures .0),
     )
 
 pub calculate-freeable-space-spec : {M : Type 1} → statement M

@@ -30,7 +30,7 @@ enum-known-n : tie.Need-enum-known-n Inv-loop μ-loop
 enum-known-n c = search needs
 
 returns : tie.Need-returns Inv-loop μ-loop
-returns c = sym (c .before .before .before .before .loop .inv ∙ scan-broken _ _ (c .before .before .before .before .before .before .before .pre) _ _ (c .before .before .before .next .ensures) _ _ _ (c .before .n .given .1))
+returns c = sym (c .before .before .before .before .loop .inv ∙ scan-broken _ _ (c .before .before .before .before .before .before .before .pre) _ _ _ _ (rw (c .before .n .given .1) at (c .before .before .before .next .ensures)))
 
 enum-told : tie.Need-enum-told Inv-loop μ-loop
 enum-told c = search needs
@@ -39,7 +39,7 @@ stopped-requires : tie.Need-stopped-requires Inv-loop μ-loop
 stopped-requires c κs = search needs
 
 returns-2 : tie.Need-returns-2 Inv-loop μ-loop
-returns-2 c = c .stopped .ensures ∙ sym (c .before .before .before .before .loop .inv ∙ scan-free _ _ (c .before .before .before .before .before .before .before .pre) _ _ (c .before .before .before .next .ensures) _ _ (c .before .enum-told .given .1))
+returns-2 c = c .stopped .ensures ∙ sym (c .before .before .before .before .loop .inv ∙ scan-free _ _ (c .before .before .before .before .before .before .before .pre) _ _ _ (rw (c .before .enum-told .given .1) at (c .before .before .before .next .ensures)))
 
 enum-told-2 : tie.Need-enum-told-2 Inv-loop μ-loop
 enum-told-2 c = search needs
@@ -48,7 +48,7 @@ stopped-requires-2 : tie.Need-stopped-requires-2 Inv-loop μ-loop
 stopped-requires-2 c κs = search needs
 
 returns-3 : tie.Need-returns-3 Inv-loop μ-loop
-returns-3 c = c .stopped2 .ensures ∙ sym (c .before .before .before .before .loop .inv ∙ scan-end _ _ (c .before .before .before .before .before .before .before .pre) _ _ (c .before .before .before .next .ensures) _ _ (c .before .enum-told2 .given .1))
+returns-3 c = c .stopped2 .ensures ∙ sym (c .before .before .before .before .loop .inv ∙ scan-end _ _ (c .before .before .before .before .before .before .before .pre) _ _ _ (rw (c .before .enum-told2 .given .1) at (c .before .before .before .next .ensures)))
 
 enum-known-n-2 : tie.Need-enum-known-n-2 Inv-loop μ-loop
 enum-known-n-2 c = search needs
@@ -57,10 +57,10 @@ rank-requires : tie.Need-rank-requires Inv-loop μ-loop
 rank-requires c κs = search needs
 
 loop-less : tie.Need-loop-less Inv-loop μ-loop
-loop-less c = let v = next-moves _ _ _ _ _ (sym (c .before .before .before .before .next .ensures) ∙ c .before .before .n2 .given .1) in omega (arith, v .forward, v .within, header-some (c .before .before .before .before .before .before .before .before .args .g .granularity) (c .before .before .before .before .before .before .before .before .args .g .s))
+loop-less c = let v = next-moves _ _ _ _ _ (sym (rw (c .before .before .n2 .given .1) at (c .before .before .before .before .next .ensures))) in omega (arith, v .forward, v .within, header-some (c .before .before .before .before .before .before .before .before .args .g .granularity) (c .before .before .before .before .before .before .before .before .args .g .s))
 
 loop-again : tie.Need-loop-again Inv-loop μ-loop
-loop-again c = c .before .before .before .before .before .loop .inv ∙ scan-more _ _ (c .before .before .before .before .before .before .before .before .pre) _ _ (c .before .before .before .before .next .ensures) _ _ _ _ (c .before .before .n2 .given .1) ∙ rw (c .rank .ensures)
+loop-again c = c .before .before .before .before .before .loop .inv ∙ scan-more _ _ (c .before .before .before .before .before .before .before .before .pre) _ _ _ _ _ (rw (c .before .before .n2 .given .1) at (c .before .before .before .before .next .ensures)) ∙ rw (c .rank .ensures)
 
 pub list-spec : {M : Type 1} → statement M
 list-spec =

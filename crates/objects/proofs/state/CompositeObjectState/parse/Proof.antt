@@ -38,24 +38,27 @@ of-marks-requires c κs = search needs
 enum-known-m : tie.Need-enum-known-m
 enum-known-m c = search needs
 
-enum-known-m-2 : tie.Need-enum-known-m-2
-enum-known-m-2 c = search needs
+enum-told-2 : tie.Need-enum-told-2
+enum-told-2 c = search needs
+
+number-requires : tie.Need-number-requires
+number-requires c κs = search needs
 
 returns : tie.Need-returns
 unfolding stateIn
-returns c = rw (← c .before .before .parse .ensures, c .enum-told .given .1)
+returns c = rw (c .number .ensures, ← c .before .before .before .before .before .before .before .before .before .before .before .parse .ensures, c .before .before .before .before .before .before .before .before .before .kind2 .given .1, ← rw (c .before .before .before .before .before .before .before .finish-at .ensures, c .before .before .before .before .before .before .delete-at .ensures) at (c .before .before .before .of-marks .ensures), c .before .enum-told2 .given .1)
 
 returns-2 : tie.Need-returns-2
 unfolding stateIn
-returns-2 c = rw (← c .before .before .before .parse .ensures, c .before .kind .given .1)
+returns-2 c = rw (← c .before .before .parse .ensures, c .enum-told .given .1)
 
 returns-3 : tie.Need-returns-3
 unfolding stateIn
-returns-3 c = rw (← c .before .before .before .before .before .before .before .before .before .before .before .parse .ensures, c .before .before .before .before .before .before .before .before .before .kind2 .given .1, ← rw (c .before .before .before .before .before .before .before .finish-at .ensures, c .before .before .before .before .before .before .delete-at .ensures) at (c .before .before .before .of-marks .ensures), c .before .m .given .1)
+returns-3 c = rw (← c .before .before .before .parse .ensures, c .before .kind .given .1)
 
 returns-4 : tie.Need-returns-4
 unfolding stateIn
-returns-4 c = rw (← c .before .before .before .before .before .before .before .before .before .before .before .parse .ensures, c .before .before .before .before .before .before .before .before .before .kind2 .given .1, ← rw (c .before .before .before .before .before .before .before .finish-at .ensures, c .before .before .before .before .before .before .delete-at .ensures) at (c .before .before .before .of-marks .ensures), c .before .m2 .given .1)
+returns-4 c = rw (← c .before .before .before .before .before .before .before .before .before .before .before .parse .ensures, c .before .before .before .before .before .before .before .before .before .kind2 .given .1, ← rw (c .before .before .before .before .before .before .before .finish-at .ensures, c .before .before .before .before .before .before .delete-at .ensures) at (c .before .before .before .of-marks .ensures), c .before .m .given .1)
 
 pub parse-spec : {M : Type 1} → statement M
 parse-spec =
@@ -72,7 +75,8 @@ parse-spec =
     shared-slice-read-of-marks-2
     of-marks-requires
     enum-known-m
-    enum-known-m-2
+    enum-told-2
+    number-requires
     returns
     returns-2
     returns-3
