@@ -16,13 +16,14 @@ use Rattle.medium.specs.declared.fuse.Fuse.{Fuse}
 use Rattle.medium.specs.Granularity.{pick, longestBlockHeader, widthOf, alignOf, blockHeader}
 use Rattle.medium.specs.Geometry.{geometryOk, admit, checkOf}
 use Rattle.medium.specs.Units.{under, blank}
-use Rattle.medium.specs.Operation.{Answer, done, refused, andThen, run, ask, putting, _>>=_}
-use Rattle.medium.specs.Medium.{readable, writable, erasable, readAt, lent, write, erase}
+use Rattle.medium.specs.Operation.{Answer, done, refused, andThen, run, ask, _>>=_}
+use Rattle.medium.specs.Medium.{readable, writable, erasable, readAt, lent}
 use Rattle.medium.proofs.Runs.{run-ask, ask-on, ask-stop, test-on, test-stop}
 use Rattle.medium.proofs.Bytes.{length-erased}
 use Rattle.medium.proofs.Checks.{Fine, sound-is, admitted, passed, admit-pass, picked}
 use Rattle.medium.proofs.Ranges.{read-lent, read-refused}
 use Rattle.medium.proofs.Places.{headed, even-align}
+use Rattle.medium.proofs.Writes.{write-passed, erase-passed}
 use Rattle.blocks.specs.declared.header.BlockType.the-variants.{Undefined}
 use Rattle.blocks.specs.declared.header.BlockHeaderKind.the-variants.{Known}
 use Rattle.blocks.specs.BlockHeader.{wideBytes, headerBytes, writeHeader, headerIn, blockHeaderAt}
@@ -140,14 +141,14 @@ label-writes g b n room e =
     zero-mod Word4 = omega arith
 
 label-done : (g : Geometry) (b n : ℕ) (img : List ℕ) → erasable g (length img) b ≡ 0 → labelling g b n img .answer ≡ done tt
-unfolding labelling writeHeader write putting
-label-done g b n img e = rw (label-writes g b n (length img) e)
+unfolding labelling writeHeader
+label-done g b n img e = rw (write-passed g b 0 (headerBytes g (undefined n)) img (label-writes g b n (length img) e))
 
 renew-done : (g : Geometry) (b n : ℕ) (img : List ℕ) → erasable g (length img) b ≡ 0 → renewing g b n img .answer ≡ done tt
-unfolding renewing erase putting _>>=_
+unfolding renewing _>>=_
 renew-done g b n img e =
     let l : length (under (b * g .size) (blank (g .size)) img) ≡ length img = length-erased (b * g .size) (g .size) img in
-    rw e (label-done g b n (under (b * g .size) (blank (g .size)) img) (rw l e))
+    rw (erase-passed g b img e) (label-done g b n (under (b * g .size) (blank (g .size)) img) (rw l e))
 
 -- the answer with power is that of the plan's stores
 format-answer : (g : Geometry) (b : ℕ) (img : List ℕ) (p : Planned) → planAt g b img ≡ done p → formatBlock g b img .answer ≡ carryOut g b p img .answer

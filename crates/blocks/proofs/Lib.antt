@@ -4,3 +4,4 @@ pub mod Records
 pub mod Scans
 pub mod ReadBack
 pub mod Formatted
+pub mod Seen

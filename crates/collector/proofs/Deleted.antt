@@ -4,22 +4,21 @@ use mathlib.Core.Logic.{_⊎_, inl, inr}
 use mathlib.Core.Bool.{Bool, true, false, false≢true}
 use mathlib.Core.List.{List, [], _∷_}
 use Prim.Native.Nat.{ℕ, _+_, _-_}
+use native.Mathlib.Nat.{add-zero}
 use native.Mathlib.Omega.{arith}
 use lib.ListN.{length, getD}
 use lib.Dec.{ltb, eqb}
 use lib.Bits.{and-zero-r}
 use borrow.Author.Tests.{eqb-true, eqb-false}
 use Rattle.medium.specs.declared.geometry.Geometry.{Geometry}
-use Rattle.medium.specs.Granularity.{pick, widthOf, deleteAt}
+use Rattle.medium.specs.Granularity.{pick, deleteAt}
 use Rattle.medium.specs.Geometry.{checkOf, address}
-use Rattle.medium.specs.Units.{FlashUnit, padded, unitsOf}
-use Rattle.medium.specs.Operation.{flash, happen, apply, Answer, done, Op, _>>=_, ask, give, refuse, putting}
-use Rattle.medium.specs.Medium.{writable, write}
+use Rattle.medium.specs.Units.{FlashUnit}
+use Rattle.medium.specs.Operation.{flash, happen, apply, Answer, done, Op, _>>=_, ask, give, putting}
+use Rattle.medium.specs.Medium.{write}
 use Rattle.medium.specs.Beside.{Both, onImage, beside}
+use Rattle.medium.proofs.Writes.{write-byte}
 use Rattle.medium.proofs.Runs.{bound}
-use Rattle.medium.proofs.Bytes.{fits-up, length-padded, store-whole, getD-padded, program-at}
-use Rattle.medium.proofs.Places.{width-is}
-use Rattle.medium.proofs.Checks.{write-at}
 use Rattle.medium.proofs.Beside.{image-left, image-answer, image-quiet}
 use Rattle.medium.proofs.Left.{left, bind-left, bind-events, tested, ask-events}
 use Rattle.objects.specs.declared.state.CompositeObjectState.{CompositeObjectState}
@@ -40,25 +39,7 @@ use Rattle.collector.proofs.Touched.{sized-as}
 -- ---- a byte 00
 
 write-zero : (g : Geometry) (b o : ℕ) (img : List ℕ) (u : Unit {0}) → write g b o (0 ∷ []) img .answer ≡ done u → getD (left (write g b o (0 ∷ [])) img) (address g b o) 0 ≡ 0
-unfolding write putting ask
-write-zero g b o img u e = go (eqb (writable g (length img) b o 1) 0) refl e
-  where
-    stored : writable g (length img) b o 1 ≡ 0 → getD (happen flash (unitsOf (widthOf (g .granularity)) (address g b o) (0 ∷ [])) img) (address g b o) 0 ≡ 0
-    stored z =
-        let hw = width-is (g .granularity) .0 in
-        let l = write-at g (length img) b o 1 (writable g (length img) b o 1) refl z in
-        let f = fits-up (widthOf (g .granularity)) hw 1 in
-        let k = length-padded (widthOf (g .granularity)) hw (0 ∷ []) in
-        let p : address g b o + 0 ≡ address g b o = omega arith in
-        let q = program-at (address g b o) (padded (widthOf (g .granularity)) (0 ∷ [])) img 0 0 (omega (arith, f, k)) (omega (arith, f, l .ends)) in
-        let r = getD-padded (widthOf (g .granularity)) hw (0 ∷ []) 0 0 (omega arith) in
-        rw (store-whole (widthOf (g .granularity)) hw (address g b o) (0 ∷ []) img) ((rw p at q) ∙ rw r (and-zero-r (getD img (address g b o) 0)))
-
-    go : (t : Bool) → eqb (writable g (length img) b o 1) 0 ≡ t
-        → pick {A = Op (Unit {0})} t (λ i. putting (unitsOf (widthOf (g .granularity)) (address g b o) (0 ∷ [])) tt i) (refuse (writable g (length img) b o 1)) img .answer ≡ done u
-        → getD (happen flash (pick {A = Op (Unit {0})} t (λ i. putting (unitsOf (widthOf (g .granularity)) (address g b o) (0 ∷ [])) tt i) (refuse (writable g (length img) b o 1)) img .events) img) (address g b o) 0 ≡ 0
-    go true q h = stored (eqb-true _ _ q)
-    go false q h = let z : _≡_ {A = ℕ} 0 1 = cc in absurd (omega arith)
+write-zero g b o img u e = let p : address g b o + 0 ≡ address g b o = add-zero (address g b o) in (rw p at (write-byte g b o (0 ∷ []) img u 0 e (omega arith))) ∙ and-zero-r (getD img (address g b o) 0)
 
 -- the place of the delete mark
 abbrev pub markAddress : Geometry → ObjectHeader → ℕ

@@ -7,22 +7,21 @@ use mathlib.Core.List.{List, [], _∷_}
 use Prim.Native.Nat.{ℕ, zero, suc, _+_, _≤_, _<_}
 use native.Mathlib.Nat.{le-refl}
 use native.Mathlib.Omega.{arith}
-use lib.ListN.{length}
 use lib.Dec.{eqb}
 use borrow.Author.Tests.{eqb-true}
 use Rattle.medium.specs.declared.geometry.Geometry.{Geometry}
 use Rattle.medium.specs.All.{All}
 use Rattle.medium.specs.Granularity.{pick, widthOf, alignOf, sizeAt, deleteAt, header}
 use Rattle.medium.specs.Geometry.{address}
-use Rattle.medium.specs.Units.{unitsOf}
-use Rattle.medium.specs.Operation.{Answer, happen, done, refused, Op, ask, refuse, putting}
-use Rattle.medium.specs.Medium.{writable, write}
+use Rattle.medium.specs.Operation.{Answer, happen, done, refused}
 use Rattle.medium.specs.Beside.{Event, Both, beside}
-use Rattle.medium.proofs.Bytes.{Off, Misses, store-miss}
+use Rattle.medium.proofs.Writes.{write-miss}
+use Rattle.medium.proofs.Bytes.{Off}
 use Rattle.medium.proofs.Frame.{inner}
-use Rattle.medium.proofs.Places.{width-is, laid}
+use Rattle.medium.proofs.Places.{laid}
 use Rattle.medium.proofs.Beside.{Misses-event}
 use Rattle.medium.proofs.Events.{bind-each, ask-each, asked-each}
+use Rattle.objects.proofs.Numbers.{length-bytes}
 use Rattle.objects.specs.declared.location.ObjectLocation.{ObjectLocation}
 use Rattle.objects.specs.declared.header.ObjectHeader.{ObjectHeader}
 use Rattle.objects.specs.declared.header.PayloadSize.the-variants.{Set, Unset}
@@ -42,19 +41,6 @@ use Rattle.shown.proofs.Agreeing.{Agree, agree-self, agree-less, agree-on, next
 use Rattle.collector.proofs.Touched.{Visited, visit-each}
 
 -- ---- a byte that the repair of an object misses
-
--- a write misses a byte outside its whole units
-write-miss : (g : Geometry) (b o : ℕ) (bs img : List ℕ) (a : ℕ) → Off (address g b o) (alignOf (widthOf (g .granularity)) (length bs)) a → All (Misses a) (write g b o bs img .events)
-unfolding write putting ask
-write-miss g b o bs img a h = go (eqb (writable g (length img) b o (length bs)) 0)
-  where
-    go : (t : Bool) → All (Misses a) (pick {A = Op (Unit {0})} t (λ i. putting (unitsOf (widthOf (g .granularity)) (address g b o) bs) tt i) (refuse (writable g (length img) b o (length bs))) img .events)
-    go true = store-miss (widthOf (g .granularity)) (width-is (g .granularity) .0) (address g b o) bs a h
-    go false = tt
-
-length-bytes : (k n : ℕ) → length (bytes k n) ≡ k
-length-bytes zero n = refl
-length-bytes (suc k) n = ap suc (length-bytes k _)
 
 -- outside a range of a block, by addresses
 off-at : (g : Geometry) (b from n o : ℕ) → Off from n o → Off (address g b from) n (address g b o)

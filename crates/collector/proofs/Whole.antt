@@ -12,12 +12,12 @@ use borrow.Author.Tests.{eqb-true, eqb-false}
 use Rattle.medium.specs.declared.geometry.Geometry.{Geometry}
 use Rattle.medium.specs.declared.fuse.Fuse.{Fuse}
 use Rattle.medium.specs.All.{All}
-use Rattle.medium.specs.Granularity.{pick, widthOf, unitsIn}
 use Rattle.medium.specs.Geometry.{address}
-use Rattle.medium.specs.Units.{FlashUnit, padded, words, unitsOf}
-use Rattle.medium.specs.Operation.{happen, done, orRefuse, Op, _>>=_, ask, test, refuse, putting, run}
-use Rattle.medium.specs.Medium.{writable, write, erase}
+use Rattle.medium.specs.Units.{FlashUnit}
+use Rattle.medium.specs.Operation.{happen, done, orRefuse, _>>=_, test, run}
+use Rattle.medium.specs.Medium.{write, erase}
 use Rattle.medium.specs.Beside.{Event, unit, Both, beside}
+use Rattle.medium.proofs.Writes.{write-each}
 use Rattle.medium.proofs.Frame.{other-block, write-misses, erase-misses}
 use Rattle.medium.proofs.Beside.{Misses-event, Skips-event, byte-run, field-run, length-run}
 use Rattle.medium.proofs.Events.{bind-each, asked-each, ask-each}
@@ -190,22 +190,10 @@ pass-spares k f g s b o l h = byte-run f (pass (stepOf k) g) s (address g b o) 0
     go passes.EraseInvalidFinishedBlocks = format-pass-misses passes.EraseInvalidFinishedBlocks tt g s b shown o l
     go passes.EraseFullFinishedBlocks = format-pass-misses passes.EraseFullFinishedBlocks tt g s b shown o l
 
-write-programs : (g : Geometry) (b o : ℕ) (bs img : List ℕ) → All (λ u. Programs (unit u)) (write g b o bs img .events)
-unfolding write putting ask
-write-programs g b o bs img = go (eqb (writable g (length img) b o (length bs)) 0)
-  where
-    each : (n w a : ℕ) (ds : List ℕ) → All (λ u. Programs (unit u)) (words n w a ds)
-    each zero w a ds = tt
-    each (suc n) w a ds = (tt, each n w (a + w) _)
-
-    go : (t : Bool) → All (λ u. Programs (unit u)) (pick {A = Op (Unit {0})} t (λ i. putting (unitsOf (widthOf (g .granularity)) (address g b o) bs) tt i) (refuse (writable g (length img) b o (length bs))) img .events)
-    go true = each (unitsIn (widthOf (g .granularity)) (length bs)) (widthOf (g .granularity)) (address g b o) (padded (widthOf (g .granularity)) bs)
-    go false = tt
-
 pub first-never-erases : FirstNeverErases
 unfolding FirstNeverErases
 first-never-erases g s =
     pass-each (stepOf passes.DeleteInvalidObjects) g Programs s
     (λ few. sweep-from (stepOf passes.DeleteInvalidObjects) g Programs 0
-    (λ c r t _. first-own g few Programs c (record { writes = λ o bs img. write-programs g c o bs img; words = λ _ _ _. tt }) r t)
+    (λ c r t _. first-own g few Programs c (record { writes = λ o bs img. write-each (λ u. Programs (unit u)) (λ _ _. tt) g c o bs img; words = λ _ _ _. tt }) r t)
     (g .count) 0 s (omega arith))
