@@ -9,4 +9,5 @@ pub mod Counting
 pub mod Phantom
 pub mod Listed
 pub mod Scans
+pub mod Rescans
 pub mod Instance

@@ -247,7 +247,7 @@ module _ (g : Geometry) (h : ObjectHeader) (to : ObjectLocation) (room : ℕ) (t
   abbrev sp : ℕ
   sp = span (g .granularity) (g .s) (length (payloadIn g h img))
 
-  r : Ready g h to t (payloadIn g h img) img
+  abbrev r : Ready g h to t (payloadIn g h img) img
   r = ready g h to room t img v
 
   ld : Laid (g .granularity) (g .s) (length (payloadIn g h img))
@@ -256,7 +256,7 @@ module _ (g : Geometry) (h : ObjectHeader) (to : ObjectLocation) (room : ℕ) (t
   abbrev last : ℕ → List ℕ
   last k = apply (take k (us g h to t (payloadIn g h img) img (ready g h to room t img v))) img
 
-  len : (k : ℕ) → length (last k) ≡ length img
+  pub len : (k : ℕ) → length (last k) ≡ length img
   len k = length-apply (take k (us g h to t pay img r)) img
 
   fine : (k : ℕ) → checkOf g (length (last k)) ≡ 0
@@ -275,7 +275,7 @@ module _ (g : Geometry) (h : ObjectHeader) (to : ObjectLocation) (room : ℕ) (t
   unfolding listing
   walked = ended g dst (g .size) img start (to .offset) (w .stop) (w .last)
 
-  few : start + length visits ≤ to .offset
+  pub few : start + length visits ≤ to .offset
   few = walk-le g dst img (v .fine) visits start (to .offset) walked
 
   -- how many more headers may be read
@@ -286,7 +286,7 @@ module _ (g : Geometry) (h : ObjectHeader) (to : ObjectLocation) (room : ℕ) (t
   fuel = omega (arith, few, fits, ld)
 
   -- off the copy's span a cut leaves every byte
-  off-copy : (k : ℕ) → k ≤ N g h to t pay img r + 1 → (j : ℕ) → Clear q (q + sp) j → getD (last k) j 0 ≡ getD img j 0
+  pub off-copy : (k : ℕ) → k ≤ N g h to t pay img r + 1 → (j : ℕ) → Clear q (q + sp) j → getD (last k) j 0 ≡ getD img j 0
   off-copy k c j d =
       ap (λ (u : List FlashUnit). getD (apply u img) j 0) (cut-copied g h to t pay img r k c) ∙ framed-copied gr (g .s) t p q (h .size) pay img (r .given) k j d
 
@@ -350,7 +350,7 @@ module _ (g : Geometry) (h : ObjectHeader) (to : ObjectLocation) (room : ℕ) (t
   n-is : unitsTo g h ≡ N g h to t pay img r
   n-is = units-are g h to t pay img r
 
-  p-is : payloadUnits g h ≡ unitsIn (widthOf gr) (length pay)
+  pub p-is : payloadUnits g h ≡ unitsIn (widthOf gr) (length pay)
   p-is = ap (unitsIn (widthOf gr)) (r .payload)
 
   unset-at : Text pay → Second g to → (k : ℕ) (o : ObjectHeader) → 2 ≤ k → k ≤ N g h to t pay img r → infoAt g to (last k) ≡ done (found o) → o .size ≡ unsetOf (g .s) → from-there k .stop ≡ broken 2

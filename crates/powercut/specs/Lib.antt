@@ -4,5 +4,6 @@ pub mod Answers
 pub mod Again
 pub mod Listed
 pub mod Scans
+pub mod Rescans
 pub mod Call
 pub mod Rows

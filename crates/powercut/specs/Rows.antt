@@ -25,6 +25,8 @@ use Rattle.objects.specs.Header.{stateAt, sizedAt, headerAt, payloadOf, allocat
 use Rattle.objects.specs.Info.{infoAt, totalOf, spanOf}
 use Rattle.objects.specs.Reader.{readerAt, remainingOf, leftOf, readSome}
 use Rattle.objects.specs.Listing.{Stop, end, free, broken, nextOf, listFrom, listing}
+use Rattle.blocks.specs.BlockHeader.{padded, marked, blank, kindOfType, namedKind, kindIn, blockHeaderAt}
+use Rattle.blocks.specs.Scan.{scanUnknown, scanBlock}
 use Rattle.writer.specs.Writer.{soundOf, allocate, appendable, putBytes, append, finishable, flush, close, finalize}
 use Rattle.writer.specs.Moving.{sourceAt, chunk, copying, copyObject, moveObject}
 use Rattle.powercut.specs.Demand.{addressOf, payloadIn}
@@ -81,9 +83,9 @@ moved k number units mark bytes =
 -- ---- the demand's conditions as tests, in its order, numbered from 0
 
 -- all FF
-abbrev blank : List ℕ → Bool
-blank [] = true
-blank (b ∷ bs) = eqb b 255 && blank bs
+abbrev erased : List ℕ → Bool
+erased [] = true
+erased (b ∷ bs) = eqb b 255 && erased bs
 
 -- the header of a finished object, as it is read
 abbrev sameHeader : Answer ObjectHeader → ObjectHeader → Bool
@@ -97,7 +99,7 @@ conditions h to room img =
     eqb (checkOf small (length img)) 0 ∷ areBytes img ∷ sameHeader (headerAt small (h .location) img) h
     ∷ eqb (h .location .offset % widthOf (small .granularity)) 0
     ∷ leb (h .location .offset + totalOf (small .granularity) (small .s) h) (small .size)
-    ∷ ltb (to .block) (small .count) ∷ leb (to .offset + room) (small .size) ∷ blank (part q room img) ∷ eqb (to .offset % widthOf (small .granularity)) 0
+    ∷ ltb (to .block) (small .count) ∷ leb (to .offset + room) (small .size) ∷ erased (part q room img) ∷ eqb (to .offset % widthOf (small .granularity)) 0
     ∷ leb (spanOf (small .granularity) (small .s) h) room
     ∷ (leb (p + totalOf (small .granularity) (small .s) h) q || leb (q + room) p)
     ∷ []
@@ -128,6 +130,15 @@ stopNumber (broken n) = n
 abbrev stops : Geometry → ObjectHeader → ObjectLocation → List ℕ → ℕ → List ℕ
 stops g h to img zero = []
 stops g h to img (suc n) = stopNumber (stopAfter g h to img n) ∷ stops g h to img n
+
+-- a Data block, erased never, with an object or none behind its header
+abbrev data-block : List ℕ → List ℕ
+data-block bs = (0xBA ∷ 0x01 ∷ 0x44 ∷ 0xAA ∷ 0x00 ∷ 0x00 ∷ 0x00 ∷ 0x00 ∷ []) ++ bs ++ replicate (56 - length bs) 255
+
+-- a scan of the destination's block, likewise
+abbrev scans : ObjectHeader → ObjectLocation → List ℕ → ℕ → List ℕ
+scans h to img zero = []
+scans h to img (suc n) = numberOf (scanBlock small (to .block) (leftBy small h to img n)) ∷ scans h to img n
 
 -- ---- the same move again, after each number of units below n, the last first: its number, where it leaves what the uncut move leaves, or what it found
 
@@ -185,6 +196,8 @@ table =
     ∷ same (stops (two-bytes 64) (object 3) (place 1 8) (block 8 (0x8E ∷ 0xF0 ∷ 0x03 ∷ 0x00 ∷ 0x41 ∷ 0x42 ∷ 0x43 ∷ []) ++ block 8 []) 9) (0 ∷ 0 ∷ 0 ∷ 0 ∷ 2 ∷ 2 ∷ 2 ∷ 0 ∷ 0 ∷ [])
     -- but where its low byte is FF it still reads unset: 255 bytes, refused after unit 257 too, and not after unit 258
     ∷ same (stopNumber (stopAfter (two-bytes 512) (object 255) (place 1 8) long 257) ∷ stopNumber (stopAfter (two-bytes 512) (object 255) (place 1 8) long 258) ∷ []) (2 ∷ 0 ∷ [])
+    -- and so is a scan of it
+    ∷ same (scans (object 3) (place 1 8) (data-block abc ++ data-block []) 8) (0 ∷ 0 ∷ 0 ∷ 2 ∷ 2 ∷ 2 ∷ 0 ∷ 0 ∷ [])
     -- and at no cut where the payload begins with FF, or where no second header fits
     ∷ same (stops small (object 3) (place 1 8) (block 8 (0x8E ∷ 0xF0 ∷ 0x03 ∷ 0xFF ∷ 0x42 ∷ 0x43 ∷ []) ++ block 8 []) 8) (0 ∷ 0 ∷ 0 ∷ 0 ∷ 0 ∷ 0 ∷ 0 ∷ 0 ∷ [])
     ∷ same (stops small (object 3) (place 1 58) (block 8 abc ++ block 8 (0x8E ∷ 0xF0 ∷ 0x2F ∷ replicate 47 0x41)) 8) (0 ∷ 0 ∷ 0 ∷ 0 ∷ 0 ∷ 0 ∷ 0 ∷ 0 ∷ [])
@@ -193,5 +206,5 @@ table =
     ∷ []
 
 pub rows : all table ≡ true
-unfolding geometryOk admit _>>=_ ask test putting run readable writable readAt write typeOf markOf pairOf marksOf stateIn stateAt sizedAt headerAt payloadOf totalOf allocatableOf marking setState sizableOf setPayloadSize infoAt nextOf listFrom listing readerAt remainingOf leftOf readSome soundOf allocate appendable putBytes append finishable flush close finalize sourceAt chunk copying copyObject moveObject payloadRead isCopy
+unfolding geometryOk admit _>>=_ ask test putting run readable writable readAt write typeOf markOf pairOf marksOf stateIn stateAt sizedAt headerAt payloadOf totalOf allocatableOf marking setState sizableOf setPayloadSize infoAt nextOf listFrom listing readerAt remainingOf leftOf readSome soundOf allocate appendable putBytes append finishable flush close finalize sourceAt chunk copying copyObject moveObject payloadRead isCopy kindOfType marked blank padded namedKind kindIn blockHeaderAt scanUnknown scanBlock
 rows = refl

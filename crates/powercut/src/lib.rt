@@ -2,8 +2,9 @@
 //
 // The demand is stated in specs/Demand.antt, over the definition of a move that the contract of `writer::moving::move_object` cites; the
 // units of a move and their order are in specs/Stores.antt, what follows for an auditor in specs/Answers.antt, and what listings show in
-// specs/Listed.antt. What can be done after a cut is in specs/Again.antt, and at which cuts the copy's block can still be listed in
-// specs/Scans.antt; computed rows are in specs/Rows.antt. The one function here is that call again, with the demand in its contract.
+// specs/Listed.antt. What can be done after a cut is in specs/Again.antt; at which cuts the copy's block can still be listed in
+// specs/Scans.antt, and scanned in specs/Rescans.antt; computed rows are in specs/Rows.antt. The one function here is that call again,
+// with the demand in its contract.
 use medium::fuse::Fuse;
 use medium::geometry::Geometry;
 use objects::header::Headed;
