@@ -7,14 +7,13 @@ use Prim.Native.Nat.{ℕ, _*_}
 use native.Mathlib.Omega.{arith}
 use lib.ListN.{getD}
 use lib.Dec.{eqb}
-use Rattle.medium.specs.declared.granularity.GranularityRead.{GranularityRead}
-use Rattle.medium.specs.declared.granularity.GranularityRead.the-variants as granularity
+use Rattle.medium.specs.declared.granularity.Granularity.{Granularity}
 use Rattle.medium.specs.declared.granularity.Granularity.the-variants.{Bit, Word1, Word4}
 use Rattle.medium.specs.declared.geometry.Geometry.{Geometry}
 use Rattle.medium.specs.Granularity.{pick, granularityOf}
-use Rattle.medium.specs.Geometry.{geometryOk, admit, fitOf, checkOf}
-use Rattle.record.specs.declared.GeometryRead.the-variants as read
-use Rattle.record.specs.Record.{wellFormed, fieldsOf, geometryOf}
+use Rattle.medium.specs.Geometry.{geometryOk, admit, fitOf, checkOf, fieldsHold, geometryWith, geometryOf}
+use Rattle.medium.specs.Operation.{Answer, done, refused, andThen}
+use Rattle.geometry_record.specs.GeometryRecord.{wellFormed, numbersOf, recorded}
 use Rattle.files.specs.declared.pair.RecordFile.{RecordFile}
 use Rattle.files.specs.declared.pair.RecordFile.the-variants as said
 use Rattle.files.specs.declared.pair.Loaded.{Loaded}
@@ -35,26 +34,35 @@ fit-six g = go (geometryOk g)
     go true = tt
     go false = refl
 
-fields-six : (raw : List ℕ) (k : GranularityRead) → ((n : ℕ) → k ≡ granularity.Refused n → n ≡ 6) → Six (soundBy (fieldsOf raw k))
-fields-six raw (granularity.Got k) h = fit-six _
-fields-six raw (granularity.Refused n) h = h n refl
-
-granularity-six : (b n : ℕ) → granularityOf b ≡ granularity.Refused n → n ≡ 6
+granularity-six : (b n : ℕ) → granularityOf b ≡ refused n → n ≡ 6
 unfolding granularityOf
 granularity-six b n e = go (eqb b 0) (eqb b 1) (eqb b 4) e
   where
-    go : (x y z : Bool) → pick x (granularity.Got Bit) (pick y (granularity.Got Word1) (pick z (granularity.Got Word4) (granularity.Refused 6))) ≡ granularity.Refused n → n ≡ 6
+    go : (x y z : Bool) → pick x (done Bit) (pick y (done Word1) (pick z (done Word4) (refused 6))) ≡ refused n → n ≡ 6
     go true y z h = let w : _≡_ {A = ℕ} 0 1 = cc in absurd (omega arith)
     go false true z h = let w : _≡_ {A = ℕ} 0 1 = cc in absurd (omega arith)
     go false false true h = let w : _≡_ {A = ℕ} 0 1 = cc in absurd (omega arith)
     go false false false h = cc
 
+-- a geometry of a granularity, or that one's refusal
+with-six : (ns : List ℕ) (a : Answer Granularity) → ((n : ℕ) → a ≡ refused n → n ≡ 6) → Six (soundBy (andThen a (λ k. done (geometryWith ns k))))
+with-six ns (done k) h = fit-six (geometryWith ns k)
+with-six ns (refused n) h = h n refl
+
+numbers-six : (ns : List ℕ) → Six (soundBy (geometryOf ns))
+unfolding geometryOf
+numbers-six ns = go (fieldsHold ns)
+  where
+    go : (t : Bool) → Six (soundBy (pick t (andThen (granularityOf (getD ns 0 0)) (λ k. done (geometryWith ns k))) (refused 6)))
+    go true = with-six ns (granularityOf (getD ns 0 0)) (λ n e. granularity-six (getD ns 0 0) n e)
+    go false = refl
+
 sound-six : (raw : List ℕ) → Six (soundOf raw)
-unfolding soundOf geometryOf
+unfolding soundOf recorded
 sound-six raw = go (wellFormed raw)
   where
-    go : (t : Bool) → Six (soundBy (pick t (fieldsOf raw (granularityOf (getD raw 0 0))) (read.Refused 6)))
-    go true = fields-six raw (granularityOf (getD raw 0 0)) (λ n e. granularity-six (getD raw 0 0) n e)
+    go : (t : Bool) → Six (soundBy (pick t (geometryOf (numbersOf raw)) (refused 6)))
+    go true = numbers-six (numbersOf raw)
     go false = refl
 
 -- what the bytes of a record give

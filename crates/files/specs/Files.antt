@@ -8,9 +8,8 @@ use lib.Dec.{eqb}
 use Rattle.medium.specs.declared.geometry.Geometry.{Geometry}
 use Rattle.medium.specs.Granularity.{pick}
 use Rattle.medium.specs.Geometry.{fitOf, checkOf}
-use Rattle.record.specs.declared.GeometryRead.{GeometryRead}
-use Rattle.record.specs.declared.GeometryRead.the-variants as read
-use Rattle.record.specs.Record.{geometryOf}
+use Rattle.medium.specs.Operation.{Answer, done, refused}
+use Rattle.geometry_record.specs.GeometryRecord.{recorded}
 use Rattle.files.specs.declared.whole.Piece.{Piece}
 use Rattle.files.specs.declared.whole.Piece.the-variants as piece
 use Rattle.files.specs.declared.whole.FileRead.{FileRead}
@@ -34,12 +33,12 @@ FileFits file.Failed room = Unit {0}
 
 -- ---- the record: what its bytes say, and then the medium's rules
 
-abbrev pub soundBy : GeometryRead → RecordFile
-soundBy (read.Got g) = pick (eqb (fitOf g) 0) (said.Got g) (said.Refused (fitOf g))
-soundBy (read.Refused n) = said.Refused n
+abbrev pub soundBy : Answer Geometry → RecordFile
+soundBy (done g) = pick (eqb (fitOf g) 0) (said.Got g) (said.Refused (fitOf g))
+soundBy (refused n) = said.Refused n
 
 unfoldable pub soundOf : List ℕ → RecordFile
-soundOf raw = soundBy (geometryOf raw)
+soundOf raw = soundBy (recorded raw)
 
 -- some bytes say this geometry
 pub record Said (g : Geometry) : Type 0 where

@@ -2,7 +2,7 @@
 use crate::whole;
 use crate::whole::FileRead;
 use medium::geometry::Geometry;
-use record::GeometryRead;
+use medium::geometry::GeometryRead;
 ghost use mathlib.Core.Path.{_≡_};
 ghost use lib.ListN.{length};
 ghost use Rattle.files.specs.Files.{soundOf, RecordFits, ImageFits, LoadedFits};
@@ -24,7 +24,7 @@ enum RecordFile {
 fn sound(raw: &[u8]) -> RecordFile
     ensures { λ r. ⌜ r ≡ soundOf (now (raw .entry)) ⌝ }
 {
-    let got = record::geometry_of(raw);
+    let got = geometry_record::geometry_of(raw);
     let GeometryRead::Got(g) = got else {
         return RecordFile::Refused(got.number());
     };

@@ -5,12 +5,12 @@ use native.Mathlib.Nat.{suc-mul, mul-comm, mul-le-mul-left, mul-le-mul-right, mu
 use native.Mathlib.Omega.{arith}
 use mathlib.Core.List.{List}
 use mathlib.Core.Bool.{Bool, true, false, _&&_, false≢true, and-false}
-use lib.ListN.{length}
+use lib.ListN.{length, getD}
 use lib.Dec.{ltb, leb, eqb}
 use borrow.Author.Tests.{ltb-true, leb-true, eqb-true, le-leb, lt-leb, eq-eqb}
 use Rattle.medium.specs.declared.geometry.Geometry.{Geometry}
 use Rattle.medium.specs.Granularity.{pick, widthOf, unitsIn, alignOf}
-use Rattle.medium.specs.Geometry.{limitOf, geometryOk, admit, checkOf, fitOf, address}
+use Rattle.medium.specs.Geometry.{limitOf, geometryOk, admit, checkOf, fitOf, address, fieldsHold}
 use Rattle.medium.specs.Operation.{done, refused}
 use Rattle.medium.specs.Medium.{part, readable, erasable, writable, readAt}
 use Rattle.medium.proofs.Places.{width-is}
@@ -141,6 +141,20 @@ passed g room next e = go (geometryOk g) (eqb (g .size * g .count) room) e
     go true true h = refl
     go true false h = absurd (omega arith)
     go false b h = absurd (omega arith)
+
+-- ---- a geometry that comes in as numbers
+
+-- numbers that their fields hold: the first three are bytes
+pub fields-are : (ns : List ℕ) → fieldsHold ns ≡ true → (getD ns 0 0 ≤ 255) × (getD ns 1 0 ≤ 255) × (getD ns 2 0 ≤ 255)
+unfolding fieldsHold
+fields-are ns e = go (leb (getD ns 0 0) 255) (leb (getD ns 1 0) 255) (leb (getD ns 2 0) 255) (eqb (getD ns 3 0) 0) refl refl refl e
+  where
+    go : (a b c d : Bool) → leb (getD ns 0 0) 255 ≡ a → leb (getD ns 1 0) 255 ≡ b → leb (getD ns 2 0) 255 ≡ c → (a && b && c && d) ≡ true
+        → (getD ns 0 0 ≤ 255) × (getD ns 1 0 ≤ 255) × (getD ns 2 0 ≤ 255)
+    go true true true d x y z h = (leb-true _ _ x, leb-true _ _ y, leb-true _ _ z)
+    go true true false d x y z h = absurd (false≢true h)
+    go true false c d x y z h = absurd (false≢true h)
+    go false b c d x y z h = absurd (false≢true h)
 
 -- ---- where a range of a block lies
 

@@ -3,9 +3,15 @@
 -- most 256^c."
 use Prim.Native.Nat.{ℕ, _+_, _*_, _%_, _^_}
 use mathlib.Core.Bool.{Bool, _&&_}
+use mathlib.Core.List.{List}
+use lib.ListN.{getD}
 use lib.Dec.{leb, eqb}
+use Rattle.medium.specs.declared.granularity.Granularity.{Granularity}
 use Rattle.medium.specs.declared.geometry.Geometry.{Geometry}
-use Rattle.medium.specs.Granularity.{pick}
+use Rattle.medium.specs.declared.geometry.GeometryRead.{GeometryRead}
+use Rattle.medium.specs.declared.geometry.GeometryRead.the-variants as geometry
+use Rattle.medium.specs.Granularity.{pick, granularityOf}
+use Rattle.medium.specs.Answer.{Answer, done, refused, andThen, numberOf}
 
 -- 256^w for a width that is allowed, and 0 for any other
 abbrev pub limitOf : ℕ → ℕ
@@ -31,3 +37,23 @@ fitOf g = pick (geometryOk g) 0 6
 -- where a place of a block stands in the image
 abbrev pub address : Geometry → ℕ → ℕ → ℕ
 address g b o = b * g .size + o
+
+-- ---- a geometry in six numbers, as the geometry record has them: granularity, s, c, a number that has to be 0, block size, block count
+
+abbrev pub geometryAnswer : GeometryRead → Answer Geometry
+geometryAnswer (geometry.Got g) = done g
+geometryAnswer (geometry.Refused n) = refused n
+
+abbrev pub geometryNumber : GeometryRead → ℕ
+geometryNumber r = numberOf (geometryAnswer r)
+
+-- the first three are bytes, and the fourth is 0
+unfoldable pub fieldsHold : List ℕ → Bool
+fieldsHold ns = leb (getD ns 0 0) 255 && leb (getD ns 1 0) 255 && leb (getD ns 2 0) 255 && eqb (getD ns 3 0) 0
+
+abbrev pub geometryWith : List ℕ → Granularity → Geometry
+geometryWith ns k = record { granularity = k; s = getD ns 1 0; c = getD ns 2 0; size = getD ns 4 0; count = getD ns 5 0 }
+
+-- 6 for a number that its field cannot hold, and for a granularity that is none
+unfoldable pub geometryOf : List ℕ → Answer Geometry
+geometryOf ns = pick (fieldsHold ns) (andThen (granularityOf (getD ns 0 0)) (λ k. done (geometryWith ns k))) (refused 6)

@@ -1,9 +1,10 @@
 // The geometry value that is handed in with each call, and the check of it.
 use crate::granularity::Granularity;
+use crate::granularity::GranularityRead;
 ghost use mathlib.Core.Path.{_≡_};
 ghost use Rattle.medium.specs.Operation.{counted, countedNumber};
 ghost use Rattle.medium.specs.Medium.{alignedOf};
-ghost use Rattle.medium.specs.Geometry.{limitOf, checkOf, fitOf};
+ghost use Rattle.medium.specs.Geometry.{limitOf, checkOf, fitOf, fieldsHold, geometryOf, geometryAnswer, geometryNumber};
 
 pub struct Geometry {
     pub granularity: Granularity,
@@ -11,6 +12,60 @@ pub struct Geometry {
     pub c: u8,
     pub size: u32,
     pub count: u32,
+}
+
+// What numbers say of a geometry.
+pub enum GeometryRead {
+    Got(Geometry),
+    Refused(u8),
+}
+
+impl GeometryRead {
+    pub fn number(self) -> u8
+        ensures { λ r. ⌜ r ≡ geometryNumber self ⌝ }
+    {
+        match self {
+            GeometryRead::Got(_) => 0,
+            GeometryRead::Refused(k) => k,
+        }
+    }
+}
+
+// The geometry of six numbers: granularity, s, c, a number that has to be 0, block size, block count. 6 for a number that its field
+// cannot hold. The geometry's rules are tested by the calls that it is handed to.
+pub fn of_numbers(n: &[u32; 6]) -> GeometryRead
+    ensures { λ r. ⌜ geometryAnswer r ≡ geometryOf (now (n .entry)) ⌝ }
+{
+    if fields_hold(n) {
+        let told = Granularity::of_byte(n[0] as u8);
+        let GranularityRead::Got(k) = told else {
+            return GeometryRead::Refused(told.number());
+        };
+        return GeometryRead::Got(Geometry {
+            granularity: k,
+            s: n[1] as u8,
+            c: n[2] as u8,
+            size: n[4],
+            count: n[5],
+        });
+    }
+    GeometryRead::Refused(6)
+}
+
+// Whether the first three numbers are bytes, and the fourth is 0.
+fn fields_hold(n: &[u32; 6]) -> bool
+    ensures { λ r. ⌜ r ≡ fieldsHold (now (n .entry)) ⌝ }
+{
+    if 255 < n[0] {
+        return false;
+    }
+    if 255 < n[1] {
+        return false;
+    }
+    if 255 < n[2] {
+        return false;
+    }
+    n[3] == 0
 }
 
 // 256 to the power of a field width from 1 to 3, and 0 for any other.

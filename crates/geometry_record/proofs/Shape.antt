@@ -5,7 +5,7 @@ use mathlib.Core.List.{List}
 use mathlib.Core.Bool.{Bool, true, false, _&&_, false≢true}
 use lib.ListN.{length}
 use borrow.Author.Tests.{eqb-true}
-use Rattle.record.specs.Record.{wellFormed}
+use Rattle.geometry_record.specs.GeometryRecord.{wellFormed}
 
 first : (a b : Bool) → (a && b) ≡ true → a ≡ true
 first true b e = refl
@@ -13,4 +13,4 @@ first false b e = absurd (false≢true e)
 
 pub sixteen : (raw : List ℕ) → wellFormed raw ≡ true → length raw ≡ 16
 unfolding wellFormed
-sixteen raw e = eqb-true _ _ (first _ _ (first _ _ e))
+sixteen raw e = eqb-true _ _ (first _ _ e)

@@ -1,9 +1,9 @@
 use native.Mathlib.Omega.{arith}
 use Prim.Native.Nat.{_+_}
-use Rattle.record.specs.Record.{wordAt}
+use Rattle.geometry_record.specs.GeometryRecord.{wordAt}
 use borrow.Author.Needs.{needs}
-use Rattle.record.proofs.word.Statement.{statement}
-use Rattle.record.proofs.word.Tie as tie
+use Rattle.geometry_record.proofs.word.Statement.{statement}
+use Rattle.geometry_record.proofs.word.Tie as tie
 
 shared-slice-read-a : tie.Need-shared-slice-read-a
 shared-slice-read-a c = search needs
