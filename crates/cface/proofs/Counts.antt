@@ -50,50 +50,6 @@ sayable-is a b c d spent r e z = go (leb a 255) (leb b 255) (leb c 255) (leb d 2
     go true false x y p q s u t h = absurd (omega arith)
     go false w x y p q s u t h = absurd (omega arith)
 
--- ---- counts of a question: none passes a block by more than a header and a word
-
-record Asked (g : Geometry) (w : ObjectWriter) (k : Answer ℕ) (n : ℕ) : Type 0 where
-  sound : Sound g
-  possible : Possible w g
-  same : k ≡ done n
-
-asked : (g : Geometry) (w : ObjectWriter) (k : Answer ℕ) (n : ℕ) → andThen (orRefuse (fitOf g)) (λ _. andThen (orRefuse (possible g w)) (λ _. k)) ≡ done n → Asked g w k n
-asked g w k n e = go (fitOf g) (possible g w) refl refl e
-  where
-    go : (a b : ℕ) → fitOf g ≡ a → possible g w ≡ b → andThen (orRefuse a) (λ _. andThen (orRefuse b) (λ _. k)) ≡ done n → Asked g w k n
-    go zero zero p q h = record { sound = fit-sound g 0 (sym p) refl; possible = possible-is w g 0 (sym q) refl; same = h }
-    go zero (suc b) p q h = let z : _≡_ {A = ℕ} 0 1 = cc in absurd (omega arith)
-    go (suc a) b p q h = let z : _≡_ {A = ℕ} 0 1 = cc in absurd (omega arith)
-
-module _ (g : Geometry) (w : ObjectWriter) (n : ℕ) where
-  pub space-small : spaceOf g w ≡ done n → n < 4294967296
-  unfolding spaceOf
-  space-small e =
-      let a = asked g w _ n e in
-      go (leb (dataAt g w + w .held) (g .size)) (a .sound .small) (a .same)
-    where
-      go : (t : Bool) → g .size ≤ 65536 → pick t (done (g .size - (dataAt g w + w .held))) (refused 9) ≡ done n → n < 4294967296
-      go true l h = let z : g .size - (dataAt g w + w .held) ≡ n = cc in omega arith
-      go false l h = let z : _≡_ {A = ℕ} 0 1 = cc in absurd (omega arith)
-
-  pub payload-small : payloadSize g w ≡ done n → n < 4294967296
-  unfolding payloadSize
-  payload-small e =
-      let a = asked g w _ n e in
-      let q : done (w .cursor + w .held) ≡ done n = a .same in
-      let z : w .cursor + w .held ≡ n = cc in
-      omega (arith, a .possible .held, a .possible .cursor, width-is (g .granularity))
-
-  pub total-small : totalSize g w ≡ done n → n < 4294967296
-  unfolding totalSize
-  total-small e =
-      let a = asked g w _ n e in
-      let q : done (header (g .granularity) (g .s) + (w .cursor + w .held)) ≡ done n = a .same in
-      let z : header (g .granularity) (g .s) + (w .cursor + w .held) ≡ n = cc in
-      omega (arith, a .possible .held, a .possible .cursor, width-is (g .granularity), laid (g .granularity) (g .s) 0 (a .sound .s-most) .short)
-
--- ---- counts of a writer that comes back
-
 -- a test that was passed, and then what came behind it
 tested : {B : Type 0} (q : List ℕ → ℕ) (p : Op B) (img : List ℕ) (b : B) → (test q >>= λ _. p) img .answer ≡ done b → (q img ≡ 0) × (p img .answer ≡ done b)
 unfolding test ask

@@ -1,7 +1,5 @@
 pub mod Bounds
-pub mod Conversions
+pub mod Buffers
 pub mod Counts
-pub mod Pairs
-pub mod Spaces
 pub mod Spending
 pub mod Totals

@@ -4,24 +4,24 @@ use mathlib.Core.Bool.{Bool, true, false, _&&_}
 use mathlib.Core.List.{List}
 use Prim.Native.Nat.{ℕ, zero, suc, _*_, _<_}
 use native.Mathlib.Omega.{arith}
-use lib.ListN.{getD}
+use lib.ListN.{length, getD}
 use lib.Dec.{leb, eqb}
 use borrow.Author.Tests.{ne-eqb}
-use Rattle.medium.specs.declared.granularity.Granularity.{Granularity}
-use Rattle.medium.specs.declared.granularity.Granularity.the-variants.{Bit, Word1, Word4}
+use Rattle.medium.specs.declared.geometry.Geometry.{Geometry}
+use Rattle.medium.specs.declared.fuse.Fuse.{Fuse}
 use Rattle.medium.specs.declared.fuse.Stored.{Stored}
-use Rattle.medium.specs.Granularity.{pick, granularityOf}
-use Rattle.medium.specs.Geometry.{geometryOk, checkOf, admit}
+use Rattle.medium.specs.Granularity.{pick}
+use Rattle.medium.specs.Geometry.{geometryOk, admit}
 use Rattle.medium.specs.Fuse.{storedNumber}
-use Rattle.medium.specs.Operation.{EndIn, Answer, done, refused, andThen, orRefuse, endedBy, unlessStored}
+use Rattle.medium.specs.Operation.{Op, Answer, done, refused, andThen, orRefuse, run, endedBy, unlessStored}
 use Rattle.objects.specs.declared.state.CompositeObjectState.{CompositeObjectState}
 use Rattle.objects.specs.declared.header.ObjectHeader.{ObjectHeader}
 use Rattle.objects.specs.Types.{TypeSaid, typed, untyped, typeOf}
 use Rattle.writer.specs.declared.writer.ObjectWriter.{ObjectWriter}
-use Rattle.crossing.specs.Crossing.{geometryOf, geometryFor, fuseOf, unitsAfter, crossedWith, crossingWith}
+use Rattle.crossing.specs.Crossing.{given, fuseOf, unitsAfter, crossedWith, crossingWith}
 use Rattle.crossing.specs.Values.{dataStateOf, stateOf, stateBy, headerFrom, headerOf, located}
 use Rattle.cface.specs.Writers.{sayableOf, writerWith, writerOf, writerNumbers, leftBy, spentAfter}
-use Rattle.crossing.proofs.Crossings.{with-on, with-stop}
+use Rattle.crossing.proofs.Crossings.{given-stored-with, none-stored-with}
 
 -- ---- no number that comes in gives 8
 
@@ -42,27 +42,6 @@ tests (suc m) n l h = let z : suc m ≡ n = cc in omega arith
 past : {A : Type 0} (t : Bool) (a : A) (r : Answer A) (n : ℕ) → pick t (done a) r ≡ refused n → r ≡ refused n
 past true a r n h = let z : _≡_ {A = ℕ} 0 1 = cc in absurd (omega arith)
 past false a r n h = h
-
-pub geometry-uncut : (room b s c size count n : ℕ) → geometryFor room b s c size count ≡ refused n → n < 8
-unfolding geometryFor geometryOf granularityOf admit
-geometry-uncut room b s c size count n e =
-    either n (geometryOf b s c size count) (λ g. andThen (orRefuse (checkOf g room)) (λ _. done g)) (named (eqb b 0) (eqb b 1) (eqb b 4))
-    (λ g. either n (orRefuse (checkOf g room)) (λ _. done g) (tests (checkOf g room) n (checked (geometryOk g) (eqb (g .size * g .count) room))) (λ _. never g n))
-    e
-  where
-    checked : (x y : Bool) → pick x (pick y 0 7) 6 < 8
-    checked true true = omega arith
-    checked true false = omega arith
-    checked false y = omega arith
-
-    made : Granularity → Answer Geometry
-    made k = done (record { granularity = k; s = s; c = c; size = size; count = count })
-
-    named : (x y z : Bool) → andThen (pick x (done Bit) (pick y (done Word1) (pick z (done Word4) (refused 6)))) made ≡ refused n → n < 8
-    named true y z h = never _ n h
-    named false true z h = never _ n h
-    named false false true h = never _ n h
-    named false false false h = let z : 6 ≡ n = cc in omega arith
 
 four : {A : Type 0} (n : ℕ) → _≡_ {A = Answer A} (refused 4) (refused n) → n < 8
 four n h = let z : 4 ≡ n = cc in omega arith
@@ -102,19 +81,31 @@ writer-uncut ns n e =
     said : ℕ
     said = sayableOf (getD ns 7 0) (getD ns 8 0) (getD ns 9 0) (getD ns 10 0) (getD ns 11 0)
 
--- ---- how the end of a store of a writer that came in crosses
+-- ---- how a store of a writer that came in crosses
 
-module _ {S : Type 0} (e : EndIn S ObjectWriter) (u : ℕ) (ns : List ℕ) where
-  pub spent-on : (r : Stored) (x : ObjectWriter) (after : S) (n v : ℕ) (w : List ℕ) → endedBy r x after ≡ e → n ≡ storedNumber r → v ≡ unitsAfter r u
-      → w ≡ leftBy (storedNumber r) (unlessStored r ns (writerNumbers x)) → crossedWith n v after w ≡ spentAfter (crossingWith writerNumbers u ns e)
-  unfolding spentAfter
-  spent-on r x after n v w h en ev ew =
-      ap (λ (l : List ℕ). crossedWith n v after l) (ew ∙ ap (λ (m : ℕ). leftBy m (unlessStored r ns (writerNumbers x))) (sym en))
-      ∙ ap spentAfter (with-on e writerNumbers u ns r x after n v (unlessStored r ns (writerNumbers x)) h en ev refl)
+admit-uncut : (g : Geometry) (room n : ℕ) → n < 8 → admit g room n < 8
+unfolding admit
+admit-uncut g room n h = go (geometryOk g) (eqb (g .size * g .count) room)
+  where
+    go : (x y : Bool) → pick x (pick y n 7) 6 < 8
+    go true true = h
+    go true false = omega arith
+    go false y = omega arith
 
-  pub spent-stop : (fused : Bool) (n : ℕ) (s : S) → n < 8 → e ≡ record { answer = refused n; fuse = fuseOf fused u; state = s }
-      → crossedWith n u s ns ≡ spentAfter (crossingWith writerNumbers u ns e)
+module _ (g : Geometry) (a : Answer ObjectWriter) (o : Geometry → ObjectWriter → Op ObjectWriter) (fused : Bool) (u : ℕ) (ns s : List ℕ) where
+  pub given-spent : {x : ObjectWriter} (f : Fuse) (r : Stored) (y : ObjectWriter) (after : List ℕ) (n v : ℕ) (w : List ℕ)
+      → a ≡ done x → f ≡ fuseOf fused u → endedBy r y after ≡ run f (o g x) s → n ≡ storedNumber r → v ≡ unitsAfter r u
+      → w ≡ leftBy (storedNumber r) (unlessStored r ns (writerNumbers y))
+      → crossedWith n v after w ≡ spentAfter (crossingWith writerNumbers u ns (run (fuseOf fused u) (given g a o) s))
   unfolding spentAfter
-  spent-stop fused n s l h =
-      let q : leftBy n ns ≡ ns = rw (ne-eqb n 8 (λ z. omega arith)) in
-      ap (λ (l : List ℕ). crossedWith n u s l) (sym q) ∙ ap spentAfter (with-stop e writerNumbers u ns fused n s h)
+  given-spent f r y after n v w d ef er en ev ew =
+      ap (λ (l : List ℕ). crossedWith n v after l) (ew ∙ ap (λ (m : ℕ). leftBy m (unlessStored r ns (writerNumbers y))) (sym en))
+      ∙ ap spentAfter (given-stored-with g a o writerNumbers fused u ns s f r y after n v (unlessStored r ns (writerNumbers y)) d ef er en ev refl)
+
+  pub none-spent : {m k n : ℕ} → ((j : ℕ) → a ≡ refused j → j < 8) → a ≡ refused m → k ≡ m → n ≡ admit g (length s) k
+      → crossedWith n u s ns ≡ spentAfter (crossingWith writerNumbers u ns (run (fuseOf fused u) (given g a o) s))
+  unfolding spentAfter
+  none-spent {m} {k} {n} l d e q =
+      let j : n < 8 = rw (q, e) (admit-uncut g (length s) m (l m d)) in
+      let i : leftBy n ns ≡ ns = rw (ne-eqb n 8 (λ z. omega arith)) in
+      ap (λ (x : List ℕ). crossedWith n u s x) (sym i) ∙ ap spentAfter (none-stored-with g a o writerNumbers fused u ns s d e q)

@@ -1,22 +1,21 @@
 -- Writers that cross as numbers: header, cursor, held, the four numbers of the tail, spent. "A writer … comes back as it went in, except a
--- writer after 8, which is spent." And the questions and stores of writers, for a geometry that came in as numbers.
+-- writer after 8, which is spent."
 use Prim.Native.Nat.{ℕ, _<_}
 use mathlib.Core.Bool.{_&&_}
 use mathlib.Core.List.{List, [], _∷_, _++_}
 use lib.ListN.{getD, set}
 use lib.Dec.{leb, eqb}
-use Rattle.medium.specs.declared.geometry.Geometry.{Geometry}
 use Rattle.medium.specs.declared.fuse.Stored.{Stored}
 use Rattle.medium.specs.declared.fuse.Stored.the-variants as stored
 use Rattle.medium.specs.Granularity.{pick}
-use Rattle.medium.specs.Operation.{Answer, done, andThen, orRefuse, Op}
+use Rattle.medium.specs.Operation.{Answer, done, andThen, orRefuse}
 use Rattle.objects.specs.declared.header.ObjectHeader.{ObjectHeader}
 use Rattle.writer.specs.declared.writer.ObjectWriter.{ObjectWriter}
-use Rattle.writer.specs.Writer.{spaceOf, payloadSize, totalSize, allocate, append, finalize, delete}
-use Rattle.crossing.specs.Crossing.{under, CrossingWith, crossedWith}
-use Rattle.crossing.specs.Values.{located, headerOf, headerNumbers}
+use Rattle.writer.specs.declared.writer.Wrote.{Wrote}
+use Rattle.writer.specs.declared.writer.Wrote.the-variants as wrote
+use Rattle.crossing.specs.Crossing.{CrossingWith, crossedWith}
+use Rattle.crossing.specs.Values.{headerOf, headerNumbers}
 use Rattle.crossing.specs.Records.{flagNumber}
-use Rattle.crossing.specs.Kinds.{objectTypeOf}
 
 -- ---- in: 4 where the header is none, a number of the tail is no byte, or the last is neither 0 nor 1. A tail as long as the width and a
 -- cursor above 65,536 are the library's to refuse, with the same 4.
@@ -63,33 +62,12 @@ leftBy n ns = pick (eqb n 8) (set ns 11 1) ns
 unfoldable pub spentAfter : {S : Type 0} → CrossingWith S (List ℕ) → CrossingWith S (List ℕ)
 spentAfter x = crossedWith (x .number) (x .units) (x .state) (leftBy (x .number) (x .out))
 
--- ---- questions of the writer that numbers say
+-- ---- an object written whole: the answer with the total size apart, which is none where it is refused
 
-abbrev pub askWriter : {A : Type 0} → Answer Geometry → List ℕ → (Geometry → ObjectWriter → Answer A) → Answer A
-askWriter a ns q = andThen a (λ g. andThen (writerOf ns) (λ w. q g w))
+abbrev pub wroteStored : Wrote → Stored
+wroteStored (wrote.Done n f) = stored.Done f
+wroteStored (wrote.Refused k f) = stored.Refused k f
 
-abbrev pub writerSpaceIn : Answer Geometry → List ℕ → Answer ℕ
-writerSpaceIn a ns = askWriter a ns (λ g w. spaceOf g w)
-
-abbrev pub writerPayloadSizeIn : Answer Geometry → List ℕ → Answer ℕ
-writerPayloadSizeIn a ns = askWriter a ns (λ g w. payloadSize g w)
-
-abbrev pub writerTotalSizeIn : Answer Geometry → List ℕ → Answer ℕ
-writerTotalSizeIn a ns = askWriter a ns (λ g w. totalSize g w)
-
--- ---- a writer of a new object, and the stores of the writer that numbers say
-
-abbrev pub allocateIn : Answer Geometry → ℕ → ℕ → ℕ → Op ObjectWriter
-allocateIn a block offset kind = under a (λ g. under (objectTypeOf kind) (λ t. allocate g (located block offset) t))
-
-abbrev pub written : Answer Geometry → List ℕ → (Geometry → ObjectWriter → Op ObjectWriter) → Op ObjectWriter
-written a ns o = under a (λ g. under (writerOf ns) (λ w. o g w))
-
-abbrev pub appendIn : Answer Geometry → List ℕ → List ℕ → Op ObjectWriter
-appendIn a ns src = written a ns (λ g w. append g w src)
-
-abbrev pub finalizeIn : Answer Geometry → List ℕ → Op ObjectWriter
-finalizeIn a ns = written a ns (λ g w. finalize g w)
-
-abbrev pub deleteIn : Answer Geometry → List ℕ → Op ObjectWriter
-deleteIn a ns = written a ns (λ g w. delete g w)
+abbrev pub wroteTotal : Wrote → ℕ
+wroteTotal (wrote.Done n f) = n
+wroteTotal (wrote.Refused k f) = 0

@@ -1,53 +1,41 @@
 // Blocks for C.
+// Made by tools/cface.
 use blocks::format;
 use blocks::header::BlockHeader;
 use blocks::header::BlockHeaderKind;
 use blocks::header::KindRead;
 use blocks::scan;
 use crossing::call;
-use crossing::call::GeometryRead;
 use crossing::records;
 use crossing::records::BlockTypeRead;
-use medium::geometry::Counted;
 ghost use mathlib.Core.Path.{_≡_};
-ghost use lib.ListN.{length};
-ghost use Rattle.medium.specs.Operation.{run, numberOf};
-ghost use Rattle.blocks.specs.Format.{formatBlock, formatStorage};
-ghost use Rattle.crossing.specs.Crossing.{geometryOf, geometryFor, fuseOf, crossed, crossing, under, kept, keptAs};
-ghost use Rattle.crossing.specs.Records.{blockHeaderNumbers, recordNumbers, flagNumber};
-ghost use Rattle.cface.specs.Blocks.{blockHeaderIn, writeHeaderIn, dataEmptyIn, scanBlockIn, setBlockTypeIn, freeableSpaceIn};
+ghost use Rattle.medium.specs.Operation.{run};
+ghost use Rattle.blocks.specs.BlockHeader.{blockHeaderAt, writeHeader};
+ghost use Rattle.blocks.specs.Format.{dataEmptyAt, formatBlock, formatStorage, setBlockType};
+ghost use Rattle.blocks.specs.Record.{kindOf};
+ghost use Rattle.blocks.specs.Scan.{scanBlock, calculateFreeableSpace};
+ghost use Rattle.crossing.specs.Crossing.{told, telling, geometryIn, crossed, crossing, fuseOf, given, plain};
+ghost use Rattle.crossing.specs.Records.{blockHeaderNumbers, blockHeaderOf, flagNumber, recordNumbers, blockTypeOf};
 
 // The header of a block: kind and erase count.
 #[no_mangle]
 pub extern "C" fn stumpchoir_block_header_read(
-    granularity: u8,
-    s: u8,
-    c: u8,
-    size: u32,
-    count: u32,
+    geometry: &[u32; 6],
     image: &[u8],
     block: u32,
     header: &mut [u32; 2],
 ) -> u8
-    ensures { λ r. ⌜ r ≡ numberOf (blockHeaderIn (geometryOf granularity s c size count) block (now (image .entry))) ⌝ }
-    ensures { λ _. ⌜ now (header .exit) ≡ keptAs blockHeaderNumbers (blockHeaderIn (geometryOf granularity s c size count) block (now (image .entry))) (now (header .entry)) ⌝ }
+    ensures { λ r. ⌜ told r (now (header .exit)) ≡ telling blockHeaderNumbers (now (header .entry)) (blockHeaderAt (geometryIn (now (geometry .entry))) block (now (image .entry))) ⌝ }
 {
-    let told = call::geometry_of(granularity, s, c, size, count);
-    let GeometryRead::Got(g) = told else {
-        return told.number();
-    };
+    let g = call::geometry(geometry);
     let a = BlockHeader::read(g, image, block);
     records::hand_header(a, header)
 }
 
-// Programs a header of a kind with an erase count.
+// Programs a header.
 #[no_mangle]
 pub extern "C" fn stumpchoir_block_header_write(
-    granularity: u8,
-    s: u8,
-    c: u8,
-    size: u32,
-    count: u32,
+    geometry: &[u32; 6],
     image: &mut [u8],
     fused: bool,
     units: &mut u32,
@@ -55,15 +43,12 @@ pub extern "C" fn stumpchoir_block_header_write(
     kind: u32,
     erase_count: u32,
 ) -> u8
-    ensures { λ r. ⌜ crossed r (now (units .exit)) (now (image .exit)) ≡ crossing (now (units .entry)) (run (fuseOf fused (now (units .entry))) (writeHeaderIn (geometryFor (length (now (image .entry))) granularity s c size count) block kind «erase_count») (now (image .entry))) ⌝ }
+    ensures { λ r. ⌜ crossed r (now (units .exit)) (now (image .exit)) ≡ crossing (now (units .entry)) (run (fuseOf fused (now (units .entry))) (given (geometryIn (now (geometry .entry))) (kindOf kind) (λ g k. writeHeader g block (blockHeaderOf k «erase_count»))) (now (image .entry))) ⌝ }
 {
-    let told = call::geometry_for(image.len(), granularity, s, c, size, count);
-    let GeometryRead::Got(g) = told else {
-        return told.number();
-    };
+    let g = call::geometry(geometry);
     let of = BlockHeaderKind::of_number(kind);
     let KindRead::Got(k) = of else {
-        return of.number();
+        return call::refusal(g, image.len(), of.number());
     };
     let h = BlockHeader {
         kind: k,
@@ -74,48 +59,33 @@ pub extern "C" fn stumpchoir_block_header_write(
     call::hand_back(a, units)
 }
 
-// Whether all bytes behind the header of a block are FF: 1 or 0.
+// Whether all bytes behind the header are FF: 1 or 0.
 #[no_mangle]
 pub extern "C" fn stumpchoir_is_block_data_empty(
-    granularity: u8,
-    s: u8,
-    c: u8,
-    size: u32,
-    count: u32,
+    geometry: &[u32; 6],
     image: &[u8],
     block: u32,
     empty: &mut u32,
 ) -> u8
-    ensures { λ r. ⌜ r ≡ numberOf (dataEmptyIn (geometryOf granularity s c size count) block (now (image .entry))) ⌝ }
-    ensures { λ _. ⌜ now (empty .exit) ≡ keptAs flagNumber (dataEmptyIn (geometryOf granularity s c size count) block (now (image .entry))) (now (empty .entry)) ⌝ }
+    ensures { λ r. ⌜ told r (now (empty .exit)) ≡ telling flagNumber (now (empty .entry)) (dataEmptyAt (geometryIn (now (geometry .entry))) block (now (image .entry))) ⌝ }
 {
-    let told = call::geometry_of(granularity, s, c, size, count);
-    let GeometryRead::Got(g) = told else {
-        return told.number();
-    };
+    let g = call::geometry(geometry);
     let a = format::is_block_data_empty(g, image, block);
     records::hand_flag(a, empty)
 }
 
-// Makes a block Undefined and empty.
+// Makes a block Undefined and empty; 2 for a known block whose erase count is at its end.
 #[no_mangle]
 pub extern "C" fn stumpchoir_format_block(
-    granularity: u8,
-    s: u8,
-    c: u8,
-    size: u32,
-    count: u32,
+    geometry: &[u32; 6],
     image: &mut [u8],
     fused: bool,
     units: &mut u32,
     block: u32,
 ) -> u8
-    ensures { λ r. ⌜ crossed r (now (units .exit)) (now (image .exit)) ≡ crossing (now (units .entry)) (run (fuseOf fused (now (units .entry))) (under (geometryOf granularity s c size count) (λ g. formatBlock g block)) (now (image .entry))) ⌝ }
+    ensures { λ r. ⌜ crossed r (now (units .exit)) (now (image .exit)) ≡ crossing (now (units .entry)) (run (fuseOf fused (now (units .entry))) (formatBlock (geometryIn (now (geometry .entry))) block) (now (image .entry))) ⌝ }
 {
-    let told = call::geometry_of(granularity, s, c, size, count);
-    let GeometryRead::Got(g) = told else {
-        return told.number();
-    };
+    let g = call::geometry(geometry);
     let f = call::fuse_of(fused, units);
     let a = format::format_block(g, image, f, block);
     call::hand_back(a, units)
@@ -124,103 +94,67 @@ pub extern "C" fn stumpchoir_format_block(
 // Formats every block, from 0 up.
 #[no_mangle]
 pub extern "C" fn stumpchoir_format_storage(
-    granularity: u8,
-    s: u8,
-    c: u8,
-    size: u32,
-    count: u32,
+    geometry: &[u32; 6],
     image: &mut [u8],
     fused: bool,
     units: &mut u32,
 ) -> u8
-    ensures { λ r. ⌜ crossed r (now (units .exit)) (now (image .exit)) ≡ crossing (now (units .entry)) (run (fuseOf fused (now (units .entry))) (under (geometryOf granularity s c size count) formatStorage) (now (image .entry))) ⌝ }
+    ensures { λ r. ⌜ crossed r (now (units .exit)) (now (image .exit)) ≡ crossing (now (units .entry)) (run (fuseOf fused (now (units .entry))) (formatStorage (geometryIn (now (geometry .entry)))) (now (image .entry))) ⌝ }
 {
-    let told = call::geometry_of(granularity, s, c, size, count);
-    let GeometryRead::Got(g) = told else {
-        return told.number();
-    };
+    let g = call::geometry(geometry);
     let f = call::fuse_of(fused, units);
     let a = format::format_storage(g, image, f);
     call::hand_back(a, units)
 }
 
-// The record of a block, read off its bytes.
+// The record of a block, read off its bytes; 1 for an Empty one, 2 where a header in it is corrupted.
 #[no_mangle]
 pub extern "C" fn stumpchoir_scan_block(
-    granularity: u8,
-    s: u8,
-    c: u8,
-    size: u32,
-    count: u32,
+    geometry: &[u32; 6],
     image: &[u8],
     block: u32,
-    numbers: &mut [u32; 4],
+    record: &mut [u32; 4],
 ) -> u8
-    ensures { λ r. ⌜ r ≡ numberOf (scanBlockIn (geometryOf granularity s c size count) block (now (image .entry))) ⌝ }
-    ensures { λ _. ⌜ now (numbers .exit) ≡ keptAs recordNumbers (scanBlockIn (geometryOf granularity s c size count) block (now (image .entry))) (now (numbers .entry)) ⌝ }
+    ensures { λ r. ⌜ told r (now («record» .exit)) ≡ telling recordNumbers (now («record» .entry)) (scanBlock (geometryIn (now (geometry .entry))) block (now (image .entry))) ⌝ }
 {
-    let told = call::geometry_of(granularity, s, c, size, count);
-    let GeometryRead::Got(g) = told else {
-        return told.number();
-    };
+    let g = call::geometry(geometry);
     let a = scan::scan_block(g, image, block);
-    records::hand_record(a, numbers)
+    records::hand_record(a, record)
 }
 
-// Programs the type of a block.
+// Programs the type byte; 4 for a kind below 2.
 #[no_mangle]
 pub extern "C" fn stumpchoir_set_block_type(
-    granularity: u8,
-    s: u8,
-    c: u8,
-    size: u32,
-    count: u32,
+    geometry: &[u32; 6],
     image: &mut [u8],
     fused: bool,
     units: &mut u32,
     block: u32,
     kind: u32,
 ) -> u8
-    ensures { λ r. ⌜ crossed r (now (units .exit)) (now (image .exit)) ≡ crossing (now (units .entry)) (run (fuseOf fused (now (units .entry))) (setBlockTypeIn (geometryFor (length (now (image .entry))) granularity s c size count) block kind) (now (image .entry))) ⌝ }
+    ensures { λ r. ⌜ crossed r (now (units .exit)) (now (image .exit)) ≡ crossing (now (units .entry)) (run (fuseOf fused (now (units .entry))) (given (geometryIn (now (geometry .entry))) (blockTypeOf kind) (λ g t. setBlockType g block t)) (now (image .entry))) ⌝ }
 {
-    let told = call::geometry_for(image.len(), granularity, s, c, size, count);
-    let GeometryRead::Got(g) = told else {
-        return told.number();
-    };
+    let g = call::geometry(geometry);
     let of = records::type_of(kind);
     let BlockTypeRead::Got(t) = of else {
-        return of.number();
+        return call::refusal(g, image.len(), of.number());
     };
     let f = call::fuse_of(fused, units);
     let a = format::set_block_type(g, image, f, block, t);
     call::hand_back(a, units)
 }
 
-// How many bytes an erase of a block would give.
+// What is free, and what unfinished and deleted objects take; 9 where the listing runs past the block.
 #[no_mangle]
 pub extern "C" fn stumpchoir_calculate_freeable_space(
-    granularity: u8,
-    s: u8,
-    c: u8,
-    size: u32,
-    count: u32,
+    geometry: &[u32; 6],
     image: &[u8],
     block: u32,
     space: &mut u64,
 ) -> u8
-    ensures { λ r. ⌜ r ≡ numberOf (freeableSpaceIn (geometryOf granularity s c size count) block (now (image .entry))) ⌝ }
-    ensures { λ _. ⌜ now (space .exit) ≡ kept (freeableSpaceIn (geometryOf granularity s c size count) block (now (image .entry))) (now (space .entry)) ⌝ }
+    ensures { λ r. ⌜ told r (now (space .exit)) ≡ telling plain (now (space .entry)) (calculateFreeableSpace (geometryIn (now (geometry .entry))) block (now (image .entry))) ⌝ }
 {
-    let told = call::geometry_of(granularity, s, c, size, count);
-    let GeometryRead::Got(g) = told else {
-        return told.number();
-    };
+    let g = call::geometry(geometry);
     let a = scan::calculate_freeable_space(g, image, block);
-    match a {
-        Counted::Bytes(bytes) => {
-            *space = bytes as u64;
-            0
-        }
-        Counted::Refused(k) => k,
-    }
+    call::hand_count(a, space)
 }

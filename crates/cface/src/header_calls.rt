@@ -1,108 +1,80 @@
 // Headers for C.
+// Made by tools/cface.
 use crossing::call;
-use crossing::call::GeometryRead;
+use crossing::outs;
 use crossing::values;
 use crossing::values::TargetRead;
 use objects::header::HeaderRead;
 use objects::header::ObjectHeader;
 use objects::location::ObjectLocation;
 ghost use mathlib.Core.Path.{_≡_};
-ghost use lib.ListN.{length};
-ghost use Rattle.medium.specs.Operation.{run, numberOf};
-ghost use Rattle.crossing.specs.Crossing.{geometryOf, geometryFor, fuseOf, keptAs, crossedWith, crossingWith};
-ghost use Rattle.crossing.specs.Values.{headerNumbers};
-ghost use Rattle.cface.specs.Objects.{headerIn, updateStateIn, setPayloadSizeIn};
+ghost use Rattle.medium.specs.Operation.{run};
+ghost use Rattle.objects.specs.Header.{headerAt, updateState, setPayloadSize};
+ghost use Rattle.crossing.specs.Crossing.{told, telling, geometryIn, crossedWith, crossingWith, fuseOf, given};
+ghost use Rattle.crossing.specs.Values.{headerNumbers, located, targetOf, headerOf};
 
 // The header at a place.
 #[no_mangle]
 pub extern "C" fn stumpchoir_header_read(
-    granularity: u8,
-    s: u8,
-    c: u8,
-    size: u32,
-    count: u32,
+    geometry: &[u32; 6],
     image: &[u8],
     block: u32,
     offset: u32,
     header: &mut [u32; 5],
 ) -> u8
-    ensures { λ r. ⌜ r ≡ numberOf (headerIn (geometryOf granularity s c size count) block offset (now (image .entry))) ⌝ }
-    ensures { λ _. ⌜ now (header .exit) ≡ keptAs headerNumbers (headerIn (geometryOf granularity s c size count) block offset (now (image .entry))) (now (header .entry)) ⌝ }
+    ensures { λ r. ⌜ told r (now (header .exit)) ≡ telling headerNumbers (now (header .entry)) (headerAt (geometryIn (now (geometry .entry))) (located block offset) (now (image .entry))) ⌝ }
 {
-    let told = call::geometry_of(granularity, s, c, size, count);
-    let GeometryRead::Got(g) = told else {
-        return told.number();
-    };
+    let g = call::geometry(geometry);
     let at = ObjectLocation {
         block: block,
         offset: offset,
     };
     let a = ObjectHeader::read(g, image, at);
-    let HeaderRead::Got(h) = a else {
-        return a.number();
-    };
-    values::put_header(h, header);
-    0
+    outs::hand_header(a, header)
 }
 
-// Goes to a state that lies ahead.
+// Stores the mark of a state that lies ahead; the present state stores nothing, backwards is 4, Free is 9.
 #[no_mangle]
 pub extern "C" fn stumpchoir_update_state(
-    granularity: u8,
-    s: u8,
-    c: u8,
-    size: u32,
-    count: u32,
+    geometry: &[u32; 6],
     image: &mut [u8],
     fused: bool,
     units: &mut u32,
     header: &mut [u32; 5],
     state: u8,
 ) -> u8
-    ensures { λ r. ⌜ crossedWith r (now (units .exit)) (now (image .exit)) (now (header .exit)) ≡ crossingWith headerNumbers (now (units .entry)) (now (header .entry)) (run (fuseOf fused (now (units .entry))) (updateStateIn (geometryFor (length (now (image .entry))) granularity s c size count) (now (header .entry)) state) (now (image .entry))) ⌝ }
+    ensures { λ r. ⌜ crossedWith r (now (units .exit)) (now (image .exit)) (now (header .exit)) ≡ crossingWith headerNumbers (now (units .entry)) (now (header .entry)) (run (fuseOf fused (now (units .entry))) (given (geometryIn (now (geometry .entry))) (targetOf (now (header .entry)) state) (λ g t. updateState g (t .header) (t .state))) (now (image .entry))) ⌝ }
 {
-    let told = call::geometry_for(image.len(), granularity, s, c, size, count);
-    let GeometryRead::Got(g) = told else {
-        return told.number();
+    let g = call::geometry(geometry);
+    let of = values::target_of(header, state);
+    let TargetRead::Got(t) = of else {
+        return call::refusal(g, image.len(), of.number());
     };
-    let of = values::header_of(header);
-    let HeaderRead::Got(h) = of else {
-        return of.number();
-    };
-    let target = values::target_of(state);
-    let TargetRead::Got(to) = target else {
-        return target.number();
-    };
+    let h = t.header;
+    let to = t.state;
     let f = call::fuse_of(fused, units);
     let a = h.update_state(g, image, f, to);
-    values::hand_back(a, units, header)
+    outs::hand_back(a, units, header)
 }
 
-// Stores a size that is not set yet.
+// Stores the low s bytes of a size that is not set yet; one that is set is 4.
 #[no_mangle]
 pub extern "C" fn stumpchoir_set_payload_size(
-    granularity: u8,
-    s: u8,
-    c: u8,
-    size: u32,
-    count: u32,
+    geometry: &[u32; 6],
     image: &mut [u8],
     fused: bool,
     units: &mut u32,
     header: &mut [u32; 5],
-    payload: u32,
+    payload_size: u32,
 ) -> u8
-    ensures { λ r. ⌜ crossedWith r (now (units .exit)) (now (image .exit)) (now (header .exit)) ≡ crossingWith headerNumbers (now (units .entry)) (now (header .entry)) (run (fuseOf fused (now (units .entry))) (setPayloadSizeIn (geometryFor (length (now (image .entry))) granularity s c size count) (now (header .entry)) payload) (now (image .entry))) ⌝ }
+    ensures { λ r. ⌜ crossedWith r (now (units .exit)) (now (image .exit)) (now (header .exit)) ≡ crossingWith headerNumbers (now (units .entry)) (now (header .entry)) (run (fuseOf fused (now (units .entry))) (given (geometryIn (now (geometry .entry))) (headerOf (now (header .entry))) (λ g h. setPayloadSize g h «payload_size»)) (now (image .entry))) ⌝ }
 {
-    let told = call::geometry_for(image.len(), granularity, s, c, size, count);
-    let GeometryRead::Got(g) = told else {
-        return told.number();
-    };
+    let g = call::geometry(geometry);
     let of = values::header_of(header);
     let HeaderRead::Got(h) = of else {
-        return of.number();
+        return call::refusal(g, image.len(), of.number());
     };
     let f = call::fuse_of(fused, units);
-    let a = h.set_payload_size(g, image, f, payload);
-    values::hand_back(a, units, header)
+    let a = h.set_payload_size(g, image, f, payload_size);
+    outs::hand_back(a, units, header)
 }

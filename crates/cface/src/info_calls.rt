@@ -1,143 +1,96 @@
 // Objects that are there, for C: known by their headers.
+// Made by tools/cface.
 use crossing::call;
-use crossing::call::GeometryRead;
+use crossing::outs;
 use crossing::values;
-use medium::geometry::Counted;
 use objects::header::HeaderRead;
 use objects::info;
-use objects::info::InfoRead;
 use objects::location::ObjectLocation;
 ghost use mathlib.Core.Path.{_≡_};
-ghost use lib.ListN.{length};
-ghost use Rattle.medium.specs.Operation.{run, numberOf};
 ghost use Rattle.objects.specs.declared.state.ObjectDataState.the-variants.{Valid, Deleted};
-ghost use Rattle.crossing.specs.Crossing.{geometryOf, geometryAlone, geometryFor, fuseOf, kept, keptAs, keptBy, crossedWith, crossingWith};
-ghost use Rattle.crossing.specs.Values.{headerNumbers};
-ghost use Rattle.cface.specs.Objects.{infoIn, infoFound, infoHeader, totalSizeIn, setStateIn};
+ghost use Rattle.medium.specs.Operation.{run};
+ghost use Rattle.objects.specs.Header.{setState};
+ghost use Rattle.objects.specs.Info.{infoAt, totalSize};
+ghost use Rattle.crossing.specs.Crossing.{told, two, tellingBy, geometryIn, telling, plain, asked, crossedWith, crossingWith, fuseOf, given};
+ghost use Rattle.crossing.specs.Values.{infoOut, located, headerOf, headerNumbers};
 
-// The object at a place, if one is there.
+// The object at a place: *found is 1 with its header, or 0 where the place is Free (then the header stays as it was).
 #[no_mangle]
 pub extern "C" fn stumpchoir_info_read(
-    granularity: u8,
-    s: u8,
-    c: u8,
-    size: u32,
-    count: u32,
+    geometry: &[u32; 6],
     image: &[u8],
     block: u32,
     offset: u32,
     found: &mut u32,
     header: &mut [u32; 5],
 ) -> u8
-    ensures { λ r. ⌜ r ≡ numberOf (infoIn (geometryOf granularity s c size count) block offset (now (image .entry))) ⌝ }
-    ensures { λ _. ⌜ now (found .exit) ≡ keptAs infoFound (infoIn (geometryOf granularity s c size count) block offset (now (image .entry))) (now (found .entry)) ⌝ }
-    ensures { λ _. ⌜ now (header .exit) ≡ keptBy infoHeader (infoIn (geometryOf granularity s c size count) block offset (now (image .entry))) (now (header .entry)) ⌝ }
+    ensures { λ r. ⌜ told r (two (now (found .exit)) (now (header .exit))) ≡ tellingBy infoOut (two (now (found .entry)) (now (header .entry))) (infoAt (geometryIn (now (geometry .entry))) (located block offset) (now (image .entry))) ⌝ }
 {
-    let told = call::geometry_of(granularity, s, c, size, count);
-    let GeometryRead::Got(g) = told else {
-        return told.number();
-    };
+    let g = call::geometry(geometry);
     let at = ObjectLocation {
         block: block,
         offset: offset,
     };
     let a = info::read(g, image, at);
-    match a {
-        InfoRead::Found(h) => {
-            *found = 1;
-            values::put_header(h, header);
-            0
-        }
-        InfoRead::Free => {
-            *found = 0;
-            0
-        }
-        InfoRead::Refused(k) => k,
-    }
+    outs::hand_info(a, found, header)
 }
 
-// Header and payload together.
+// Header and payload together, in bytes.
 #[no_mangle]
 pub extern "C" fn stumpchoir_info_total_size(
-    granularity: u8,
-    s: u8,
-    c: u8,
-    size: u32,
-    count: u32,
+    geometry: &[u32; 6],
     header: &[u32; 5],
-    total: &mut u64,
+    total_size: &mut u64,
 ) -> u8
-    ensures { λ r. ⌜ r ≡ numberOf (totalSizeIn (geometryAlone granularity s c size count) (now (header .entry))) ⌝ }
-    ensures { λ _. ⌜ now (total .exit) ≡ kept (totalSizeIn (geometryAlone granularity s c size count) (now (header .entry))) (now (total .entry)) ⌝ }
+    ensures { λ r. ⌜ told r (now («total_size» .exit)) ≡ telling plain (now («total_size» .entry)) (asked (geometryIn (now (geometry .entry))) (headerOf (now (header .entry))) (λ g h. totalSize g h)) ⌝ }
 {
-    let told = call::geometry_alone(granularity, s, c, size, count);
-    let GeometryRead::Got(g) = told else {
-        return told.number();
-    };
+    let g = call::geometry(geometry);
     let of = values::header_of(header);
     let HeaderRead::Got(h) = of else {
-        return of.number();
+        return call::refusal_alone(g, of.number());
     };
     let a = info::total_size(g, h);
-    let Counted::Bytes(n) = a else {
-        return a.number();
-    };
-    *total = n as u64;
-    0
+    call::hand_count(a, total_size)
 }
 
-// Stores the mark of a finished object.
+// Stores the mark of a Finalized object.
 #[no_mangle]
 pub extern "C" fn stumpchoir_info_finalize(
-    granularity: u8,
-    s: u8,
-    c: u8,
-    size: u32,
-    count: u32,
+    geometry: &[u32; 6],
     image: &mut [u8],
     fused: bool,
     units: &mut u32,
     header: &mut [u32; 5],
 ) -> u8
-    ensures { λ r. ⌜ crossedWith r (now (units .exit)) (now (image .exit)) (now (header .exit)) ≡ crossingWith headerNumbers (now (units .entry)) (now (header .entry)) (run (fuseOf fused (now (units .entry))) (setStateIn (geometryFor (length (now (image .entry))) granularity s c size count) (now (header .entry)) Valid) (now (image .entry))) ⌝ }
+    ensures { λ r. ⌜ crossedWith r (now (units .exit)) (now (image .exit)) (now (header .exit)) ≡ crossingWith headerNumbers (now (units .entry)) (now (header .entry)) (run (fuseOf fused (now (units .entry))) (given (geometryIn (now (geometry .entry))) (headerOf (now (header .entry))) (λ g h. setState g h Valid)) (now (image .entry))) ⌝ }
 {
-    let told = call::geometry_for(image.len(), granularity, s, c, size, count);
-    let GeometryRead::Got(g) = told else {
-        return told.number();
-    };
+    let g = call::geometry(geometry);
     let of = values::header_of(header);
     let HeaderRead::Got(h) = of else {
-        return of.number();
+        return call::refusal(g, image.len(), of.number());
     };
     let f = call::fuse_of(fused, units);
     let a = info::finalize(g, image, f, h);
-    values::hand_back(a, units, header)
+    outs::hand_back(a, units, header)
 }
 
-// Stores the mark of a deleted object.
+// Stores the mark of a Deleted object.
 #[no_mangle]
 pub extern "C" fn stumpchoir_info_delete(
-    granularity: u8,
-    s: u8,
-    c: u8,
-    size: u32,
-    count: u32,
+    geometry: &[u32; 6],
     image: &mut [u8],
     fused: bool,
     units: &mut u32,
     header: &mut [u32; 5],
 ) -> u8
-    ensures { λ r. ⌜ crossedWith r (now (units .exit)) (now (image .exit)) (now (header .exit)) ≡ crossingWith headerNumbers (now (units .entry)) (now (header .entry)) (run (fuseOf fused (now (units .entry))) (setStateIn (geometryFor (length (now (image .entry))) granularity s c size count) (now (header .entry)) Deleted) (now (image .entry))) ⌝ }
+    ensures { λ r. ⌜ crossedWith r (now (units .exit)) (now (image .exit)) (now (header .exit)) ≡ crossingWith headerNumbers (now (units .entry)) (now (header .entry)) (run (fuseOf fused (now (units .entry))) (given (geometryIn (now (geometry .entry))) (headerOf (now (header .entry))) (λ g h. setState g h Deleted)) (now (image .entry))) ⌝ }
 {
-    let told = call::geometry_for(image.len(), granularity, s, c, size, count);
-    let GeometryRead::Got(g) = told else {
-        return told.number();
-    };
+    let g = call::geometry(geometry);
     let of = values::header_of(header);
     let HeaderRead::Got(h) = of else {
-        return of.number();
+        return call::refusal(g, image.len(), of.number());
     };
     let f = call::fuse_of(fused, units);
     let a = info::delete(g, image, f, h);
-    values::hand_back(a, units, header)
+    outs::hand_back(a, units, header)
 }

@@ -1,76 +1,41 @@
 // Listing for C.
+// Made by tools/cface.
 use crossing::call;
-use crossing::call::GeometryRead;
+use crossing::outs;
 use crossing::values;
-use objects::iterator::Next;
-use objects::iterator::ObjectIterator;
 ghost use mathlib.Core.Path.{_≡_};
-ghost use Rattle.medium.specs.Operation.{numberOf};
-ghost use Rattle.crossing.specs.Crossing.{geometryOf, geometryAlone, keptAs, keptBy};
-ghost use Rattle.crossing.specs.Values.{iteratorNumbers};
-ghost use Rattle.cface.specs.Objects.{startIn, nextIn, nextFound, nextHeader, nextIterator};
+ghost use Rattle.medium.specs.Operation.{done};
+ghost use Rattle.objects.specs.Listing.{startOf, nextOf};
+ghost use Rattle.crossing.specs.Crossing.{told, telling, fitting, geometryIn, two, tellingBy};
+ghost use Rattle.crossing.specs.Values.{iteratorNumbers, nextOut, nextAnswer, iteratorOf};
 
 // An iterator right after the header of a block.
 #[no_mangle]
 pub extern "C" fn stumpchoir_iterator_new(
-    granularity: u8,
-    s: u8,
-    c: u8,
-    size: u32,
-    count: u32,
+    geometry: &[u32; 6],
     block: u32,
     iterator: &mut [u32; 2],
 ) -> u8
-    ensures { λ r. ⌜ r ≡ numberOf (startIn (geometryAlone granularity s c size count) block) ⌝ }
-    ensures { λ _. ⌜ now (iterator .exit) ≡ keptAs iteratorNumbers (startIn (geometryAlone granularity s c size count) block) (now (iterator .entry)) ⌝ }
+    ensures { λ r. ⌜ told r (now (iterator .exit)) ≡ telling iteratorNumbers (now (iterator .entry)) (fitting (geometryIn (now (geometry .entry))) (done (startOf (geometryIn (now (geometry .entry))) block))) ⌝ }
 {
-    let told = call::geometry_alone(granularity, s, c, size, count);
-    let GeometryRead::Got(g) = told else {
-        return told.number();
-    };
-    values::put_iterator(ObjectIterator::new(g, block), iterator);
-    0
+    let g = call::geometry(geometry);
+    outs::start(g, block, iterator)
 }
 
-// The object at the iterator, if one is there, and the iterator behind it.
+// The object at the iterator: *found is 1 with its header and the iterator behind it. Where listing stops, iterator and header stay:
+// *found is 0 at a free place, and 2 at the end of the block.
 #[no_mangle]
 pub extern "C" fn stumpchoir_iterator_next(
-    granularity: u8,
-    s: u8,
-    c: u8,
-    size: u32,
-    count: u32,
+    geometry: &[u32; 6],
     image: &[u8],
     iterator: &mut [u32; 2],
     found: &mut u32,
     header: &mut [u32; 5],
 ) -> u8
-    ensures { λ r. ⌜ r ≡ numberOf (nextIn (geometryOf granularity s c size count) (now (iterator .entry)) (now (image .entry))) ⌝ }
-    ensures { λ _. ⌜ now (iterator .exit) ≡ keptBy nextIterator (nextIn (geometryOf granularity s c size count) (now (iterator .entry)) (now (image .entry))) (now (iterator .entry)) ⌝ }
-    ensures { λ _. ⌜ now (found .exit) ≡ keptAs nextFound (nextIn (geometryOf granularity s c size count) (now (iterator .entry)) (now (image .entry))) (now (found .entry)) ⌝ }
-    ensures { λ _. ⌜ now (header .exit) ≡ keptBy nextHeader (nextIn (geometryOf granularity s c size count) (now (iterator .entry)) (now (image .entry))) (now (header .entry)) ⌝ }
+    ensures { λ r. ⌜ told r (two (now (iterator .exit)) (two (now (found .exit)) (now (header .exit)))) ≡ tellingBy nextOut (two (now (iterator .entry)) (two (now (found .entry)) (now (header .entry)))) (nextAnswer (nextOf (geometryIn (now (geometry .entry))) (iteratorOf (now (iterator .entry))) (now (image .entry)))) ⌝ }
 {
-    let told = call::geometry_of(granularity, s, c, size, count);
-    let GeometryRead::Got(g) = told else {
-        return told.number();
-    };
+    let g = call::geometry(geometry);
     let i = values::iterator_of(iterator);
     let a = i.next(g, image);
-    match a {
-        Next::Object(h, next) => {
-            *found = 1;
-            values::put_header(h, header);
-            values::put_iterator(next, iterator);
-            0
-        }
-        Next::Free => {
-            *found = 0;
-            0
-        }
-        Next::End => {
-            *found = 0;
-            0
-        }
-        Next::Refused(k) => k,
-    }
+    outs::hand_next(a, iterator, found, header)
 }

@@ -1,11 +1,16 @@
 // The C interface: what a C or Rust program calls. include/stumpchoir.h has the same functions for people.
 //
-// A geometry comes in as five numbers, a fuse as a flag and a count of units. Every function answers one of 01's numbers, and none
+// A geometry comes in as six numbers, a fuse as a flag and a count of units. Every function answers one of 01's numbers, and none
 // has a condition that its caller must keep. A refused call leaves every out value as it was; only a writer that goes in is spent by 8.
 //
-// Always true: 6 comes first, also for a granularity byte that names none; without a fuse the units are neither read nor written.
+// Always true: 6 comes first, also for numbers that no geometry has; without a fuse the units are neither read nor written.
+//
+// tools/cface makes the functions, their contracts and their proofs from one table; written by hand is what they hand out by: cursors,
+// filled, writers.
 pub mod block_calls;
 pub mod collector_calls;
+mod cursors;
+mod filled;
 pub mod header_calls;
 pub mod info_calls;
 pub mod iterator_calls;
@@ -13,7 +18,6 @@ pub mod location_calls;
 pub mod medium_calls;
 pub mod metadata_calls;
 pub mod moving_calls;
-mod outs;
 pub mod reader_calls;
 pub mod record_calls;
 pub mod writer_calls;

@@ -1,32 +1,28 @@
 // Objects written whole, copied and moved, for C.
+// Made by tools/cface.
+use crate::writers;
 use crossing::call;
-use crossing::call::GeometryRead;
 use crossing::kinds;
 use crossing::kinds::ObjectTypeRead;
+use crossing::outs;
 use crossing::values;
-use medium::fuse::Stored;
 use objects::header::HeaderRead;
 use objects::location::ObjectLocation;
 use writer::moving;
 use writer::writer::ObjectWriter;
-use writer::writer::Wrote;
 ghost use mathlib.Core.Path.{_≡_};
-ghost use Prim.Native.Nat.{_<_};
-ghost use lib.ListN.{length};
-ghost use Rattle.medium.specs.Fuse.{storedNumber};
-ghost use Rattle.medium.specs.Operation.{run, unlessStored};
-ghost use Rattle.crossing.specs.Crossing.{geometryFor, fuseOf, unitsAfter, crossedWith, crossingWith};
-ghost use Rattle.crossing.specs.Values.{headerNumbers};
-ghost use Rattle.cface.specs.Moving.{writeToIn, wroteStored, wroteTotal, copyObjectIn, moveObjectIn};
+ghost use Rattle.medium.specs.Operation.{run};
+ghost use Rattle.writer.specs.Moving.{copyObject, moveObject};
+ghost use Rattle.writer.specs.Writer.{writeTo};
+ghost use Rattle.crossing.specs.Crossing.{crossedWith, crossingWith, plain, fuseOf, given, geometryIn};
+ghost use Rattle.crossing.specs.Kinds.{objectTypeOf};
+ghost use Rattle.crossing.specs.Values.{located, headerNumbers, headerOf};
 
-// An object of a type, written whole: header and payload together are its total size.
+// An object of a type (8F, 8E or 8D, else 4), written whole: *total_size is its header and payload together. The type is stored first,
+// and 5, where the payload does not fit, leaves it there.
 #[no_mangle]
 pub extern "C" fn stumpchoir_write_to(
-    granularity: u8,
-    s: u8,
-    c: u8,
-    size: u32,
-    count: u32,
+    geometry: &[u32; 6],
     image: &mut [u8],
     fused: bool,
     units: &mut u32,
@@ -34,51 +30,28 @@ pub extern "C" fn stumpchoir_write_to(
     offset: u32,
     kind: u8,
     src: &[u8],
-    total: &mut u32,
+    total_size: &mut u64,
 ) -> u8
-    ensures { λ r. ⌜ crossedWith r (now (units .exit)) (now (image .exit)) (now (total .exit)) ≡ crossingWith (λ n. n) (now (units .entry)) (now (total .entry)) (run (fuseOf fused (now (units .entry))) (writeToIn (geometryFor (length (now (image .entry))) granularity s c size count) block offset kind (now (src .entry))) (now (image .entry))) ⌝ }
+    ensures { λ r. ⌜ crossedWith r (now (units .exit)) (now (image .exit)) (now («total_size» .exit)) ≡ crossingWith plain (now (units .entry)) (now («total_size» .entry)) (run (fuseOf fused (now (units .entry))) (given (geometryIn (now (geometry .entry))) (objectTypeOf kind) (λ g t. writeTo g (located block offset) t (now (src .entry)))) (now (image .entry))) ⌝ }
 {
-    let told = call::geometry_for(image.len(), granularity, s, c, size, count);
-    let GeometryRead::Got(g) = told else {
-        return told.number();
-    };
+    let g = call::geometry(geometry);
     let of = kinds::object_type_of(kind);
     let ObjectTypeRead::Got(t) = of else {
-        return of.number();
+        return call::refusal(g, image.len(), of.number());
     };
-    let f = call::fuse_of(fused, units);
     let at = ObjectLocation {
         block: block,
         offset: offset,
     };
+    let f = call::fuse_of(fused, units);
     let a = ObjectWriter::write_to(g, image, f, at, t, src);
-    hand_total(a, units, total)
+    writers::hand_total(a, units, total_size)
 }
 
-// The number of the answer, the units that it left, and the total size where it is done.
-fn hand_total(told: Wrote, units: &mut u32, total: &mut u32) -> u8
-    requires { ⌜ wroteTotal told < 4294967296 ⌝ }
-    ensures { λ r. ⌜ r ≡ storedNumber (wroteStored told) ⌝ }
-    ensures { λ _. ⌜ now (units .exit) ≡ unitsAfter (wroteStored told) (now (units .entry)) ⌝ }
-    ensures { λ _. ⌜ now (total .exit) ≡ unlessStored (wroteStored told) (now (total .entry)) (wroteTotal told) ⌝ }
-{
-    match told {
-        Wrote::Done(n, f) => {
-            *total = n as u32;
-            call::hand_back(Stored::Done(f), units)
-        }
-        Wrote::Refused(k, f) => call::hand_back(Stored::Refused(k, f), units),
-    }
-}
-
-// The object that a header names, anew at another place.
+// The Finalized object that a header names, anew at another place: its header there. The type is the one that the header says.
 #[no_mangle]
 pub extern "C" fn stumpchoir_copy_object(
-    granularity: u8,
-    s: u8,
-    c: u8,
-    size: u32,
-    count: u32,
+    geometry: &[u32; 6],
     image: &mut [u8],
     fused: bool,
     units: &mut u32,
@@ -87,33 +60,26 @@ pub extern "C" fn stumpchoir_copy_object(
     offset: u32,
     copy: &mut [u32; 5],
 ) -> u8
-    ensures { λ r. ⌜ crossedWith r (now (units .exit)) (now (image .exit)) (now (copy .exit)) ≡ crossingWith headerNumbers (now (units .entry)) (now (copy .entry)) (run (fuseOf fused (now (units .entry))) (copyObjectIn (geometryFor (length (now (image .entry))) granularity s c size count) (now (header .entry)) block offset) (now (image .entry))) ⌝ }
+    ensures { λ r. ⌜ crossedWith r (now (units .exit)) (now (image .exit)) (now (copy .exit)) ≡ crossingWith headerNumbers (now (units .entry)) (now (copy .entry)) (run (fuseOf fused (now (units .entry))) (given (geometryIn (now (geometry .entry))) (headerOf (now (header .entry))) (λ g h. copyObject g h (located block offset))) (now (image .entry))) ⌝ }
 {
-    let told = call::geometry_for(image.len(), granularity, s, c, size, count);
-    let GeometryRead::Got(g) = told else {
-        return told.number();
-    };
+    let g = call::geometry(geometry);
     let of = values::header_of(header);
     let HeaderRead::Got(h) = of else {
-        return of.number();
+        return call::refusal(g, image.len(), of.number());
     };
-    let f = call::fuse_of(fused, units);
     let to = ObjectLocation {
         block: block,
         offset: offset,
     };
+    let f = call::fuse_of(fused, units);
     let a = moving::copy_object(g, image, f, h, to);
-    values::hand_back(a, units, copy)
+    outs::hand_back(a, units, copy)
 }
 
-// The same, and then it is deleted where it was.
+// The same, and then the object is deleted where it was.
 #[no_mangle]
 pub extern "C" fn stumpchoir_move_object(
-    granularity: u8,
-    s: u8,
-    c: u8,
-    size: u32,
-    count: u32,
+    geometry: &[u32; 6],
     image: &mut [u8],
     fused: bool,
     units: &mut u32,
@@ -122,21 +88,18 @@ pub extern "C" fn stumpchoir_move_object(
     offset: u32,
     copy: &mut [u32; 5],
 ) -> u8
-    ensures { λ r. ⌜ crossedWith r (now (units .exit)) (now (image .exit)) (now (copy .exit)) ≡ crossingWith headerNumbers (now (units .entry)) (now (copy .entry)) (run (fuseOf fused (now (units .entry))) (moveObjectIn (geometryFor (length (now (image .entry))) granularity s c size count) (now (header .entry)) block offset) (now (image .entry))) ⌝ }
+    ensures { λ r. ⌜ crossedWith r (now (units .exit)) (now (image .exit)) (now (copy .exit)) ≡ crossingWith headerNumbers (now (units .entry)) (now (copy .entry)) (run (fuseOf fused (now (units .entry))) (given (geometryIn (now (geometry .entry))) (headerOf (now (header .entry))) (λ g h. moveObject g h (located block offset))) (now (image .entry))) ⌝ }
 {
-    let told = call::geometry_for(image.len(), granularity, s, c, size, count);
-    let GeometryRead::Got(g) = told else {
-        return told.number();
-    };
+    let g = call::geometry(geometry);
     let of = values::header_of(header);
     let HeaderRead::Got(h) = of else {
-        return of.number();
+        return call::refusal(g, image.len(), of.number());
     };
-    let f = call::fuse_of(fused, units);
     let to = ObjectLocation {
         block: block,
         offset: offset,
     };
+    let f = call::fuse_of(fused, units);
     let a = moving::move_object(g, image, f, h, to);
-    values::hand_back(a, units, copy)
+    outs::hand_back(a, units, copy)
 }

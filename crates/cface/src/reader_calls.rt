@@ -1,172 +1,95 @@
 // Readers for C.
-use crate::outs;
+// Made by tools/cface.
+use crate::cursors;
 use crossing::call;
-use crossing::call::GeometryRead;
 use crossing::values;
-use medium::geometry::Counted;
 use objects::location::ObjectLocation;
 use objects::reader::ObjectReader;
 use objects::reader::ReaderRead;
-use objects::reader::Reading;
 ghost use mathlib.Core.Path.{_≡_};
 ghost use lib.ListN.{length};
-ghost use Rattle.medium.specs.Operation.{numberOf};
-ghost use Rattle.objects.specs.Reader.{filled};
-ghost use Rattle.crossing.specs.Crossing.{geometryOf, geometryAlone, geometryFor, kept, keptAs};
-ghost use Rattle.crossing.specs.Values.{readerNumbers};
-ghost use Rattle.cface.specs.Objects.{readerIn, readerLenIn, remainingIn, rewindIn, readSomeIn, chunkLength, chunkReader};
+ghost use Rattle.objects.specs.Reader.{readerAt, readerLen, readSome};
+ghost use Rattle.crossing.specs.Crossing.{told, telling, geometryIn, plain, asked, fitting, two, tellingBy, askedIn};
+ghost use Rattle.crossing.specs.Values.{readerNumbers, located, readerOf};
+ghost use Rattle.cface.specs.Objects.{rewindOf, chunkOut};
 
-// A reader of the object at a place: of a finished one, or of any that is there.
+// A reader of the Finalized object at a place, or of any object that is there.
 #[no_mangle]
 pub extern "C" fn stumpchoir_reader_new(
-    granularity: u8,
-    s: u8,
-    c: u8,
-    size: u32,
-    count: u32,
+    geometry: &[u32; 6],
     image: &[u8],
     block: u32,
     offset: u32,
-    unfinished: bool,
+    allow_non_finalized: bool,
     reader: &mut [u32; 6],
 ) -> u8
-    ensures { λ r. ⌜ r ≡ numberOf (readerIn (geometryOf granularity s c size count) block offset unfinished (now (image .entry))) ⌝ }
-    ensures { λ _. ⌜ now (reader .exit) ≡ keptAs readerNumbers (readerIn (geometryOf granularity s c size count) block offset unfinished (now (image .entry))) (now (reader .entry)) ⌝ }
+    ensures { λ r. ⌜ told r (now (reader .exit)) ≡ telling readerNumbers (now (reader .entry)) (readerAt (geometryIn (now (geometry .entry))) (located block offset) «allow_non_finalized» (now (image .entry))) ⌝ }
 {
-    let told = call::geometry_of(granularity, s, c, size, count);
-    let GeometryRead::Got(g) = told else {
-        return told.number();
-    };
+    let g = call::geometry(geometry);
     let at = ObjectLocation {
         block: block,
         offset: offset,
     };
-    let a = ObjectReader::new(g, image, at, unfinished);
-    let ReaderRead::Got(r) = a else {
-        return a.number();
-    };
-    outs::put_reader(r, reader);
-    0
+    let a = ObjectReader::new(g, image, at, allow_non_finalized);
+    cursors::hand_reader(a, reader)
 }
 
-// The payload size of the reader's object.
+// The payload size of the reader's object, 0 where it is unset.
 #[no_mangle]
-pub extern "C" fn stumpchoir_reader_len(
-    granularity: u8,
-    s: u8,
-    c: u8,
-    size: u32,
-    count: u32,
-    reader: &[u32; 6],
-    len: &mut u32,
-) -> u8
-    ensures { λ r. ⌜ r ≡ numberOf (readerLenIn (geometryAlone granularity s c size count) (now (reader .entry))) ⌝ }
-    ensures { λ _. ⌜ now (len .exit) ≡ kept (readerLenIn (geometryAlone granularity s c size count) (now (reader .entry))) (now (len .entry)) ⌝ }
+pub extern "C" fn stumpchoir_reader_len(geometry: &[u32; 6], reader: &[u32; 6], len: &mut u64) -> u8
+    ensures { λ r. ⌜ told r (now (len .exit)) ≡ telling plain (now (len .entry)) (asked (geometryIn (now (geometry .entry))) (readerOf (now (reader .entry))) (λ g r. readerLen g r)) ⌝ }
 {
-    let told = call::geometry_alone(granularity, s, c, size, count);
-    let GeometryRead::Got(g) = told else {
-        return told.number();
-    };
+    let g = call::geometry(geometry);
     let of = values::reader_of(reader);
     let ReaderRead::Got(r) = of else {
-        return of.number();
+        return call::refusal_alone(g, of.number());
     };
     let a = r.len(g);
-    let Counted::Bytes(n) = a else {
-        return a.number();
-    };
-    *len = n as u32;
-    0
+    call::hand_count(a, len)
 }
 
-// What is left of the payload: 9 where the cursor is beyond it.
+// What is left of the payload; 9 where the cursor is beyond it.
 #[no_mangle]
 pub extern "C" fn stumpchoir_reader_remaining(
-    granularity: u8,
-    s: u8,
-    c: u8,
-    size: u32,
-    count: u32,
+    geometry: &[u32; 6],
     reader: &[u32; 6],
-    remaining: &mut u32,
+    remaining: &mut u64,
 ) -> u8
-    ensures { λ r. ⌜ r ≡ numberOf (remainingIn (geometryAlone granularity s c size count) (now (reader .entry))) ⌝ }
-    ensures { λ _. ⌜ now (remaining .exit) ≡ kept (remainingIn (geometryAlone granularity s c size count) (now (reader .entry))) (now (remaining .entry)) ⌝ }
+    ensures { λ r. ⌜ told r (now (remaining .exit)) ≡ telling plain (now (remaining .entry)) (asked (geometryIn (now (geometry .entry))) (readerOf (now (reader .entry))) (λ g r. Rattle.objects.specs.Reader.remaining g r)) ⌝ }
 {
-    let told = call::geometry_alone(granularity, s, c, size, count);
-    let GeometryRead::Got(g) = told else {
-        return told.number();
-    };
+    let g = call::geometry(geometry);
     let of = values::reader_of(reader);
     let ReaderRead::Got(r) = of else {
-        return of.number();
+        return call::refusal_alone(g, of.number());
     };
     let a = r.remaining(g);
-    let Counted::Bytes(n) = a else {
-        return a.number();
-    };
-    *remaining = n as u32;
-    0
+    call::hand_count(a, remaining)
 }
 
 // Back to the start of the payload.
 #[no_mangle]
-pub extern "C" fn stumpchoir_reader_rewind(
-    granularity: u8,
-    s: u8,
-    c: u8,
-    size: u32,
-    count: u32,
-    reader: &mut [u32; 6],
-) -> u8
-    ensures { λ r. ⌜ r ≡ numberOf (rewindIn (geometryAlone granularity s c size count) (now (reader .entry))) ⌝ }
-    ensures { λ _. ⌜ now (reader .exit) ≡ keptAs readerNumbers (rewindIn (geometryAlone granularity s c size count) (now (reader .entry))) (now (reader .entry)) ⌝ }
+pub extern "C" fn stumpchoir_reader_rewind(geometry: &[u32; 6], reader: &mut [u32; 6]) -> u8
+    ensures { λ r. ⌜ told r (now (reader .exit)) ≡ telling readerNumbers (now (reader .entry)) (fitting (geometryIn (now (geometry .entry))) (rewindOf (now (reader .entry)))) ⌝ }
 {
-    let told = call::geometry_alone(granularity, s, c, size, count);
-    let GeometryRead::Got(_) = told else {
-        return told.number();
-    };
-    let of = values::reader_of(reader);
-    let ReaderRead::Got(r) = of else {
-        return of.number();
-    };
-    outs::put_reader(r.rewind(), reader);
-    0
+    let g = call::geometry(geometry);
+    cursors::rewind(g, reader)
 }
 
-// As much of what is left as the buffer holds, into its first bytes.
+// As much of what is left as the buffer holds, into its first *read bytes.
 #[no_mangle]
 pub extern "C" fn stumpchoir_reader_read(
-    granularity: u8,
-    s: u8,
-    c: u8,
-    size: u32,
-    count: u32,
+    geometry: &[u32; 6],
     image: &[u8],
     reader: &mut [u32; 6],
     buffer: &mut [u8],
-    read: &mut u32,
+    read: &mut u64,
 ) -> u8
-    ensures { λ r. ⌜ r ≡ numberOf (readSomeIn (geometryFor (length (now (image .entry))) granularity s c size count) (now (reader .entry)) (length (now (buffer .entry))) (now (image .entry))) ⌝ }
-    ensures { λ _. ⌜ now (reader .exit) ≡ keptAs chunkReader (readSomeIn (geometryFor (length (now (image .entry))) granularity s c size count) (now (reader .entry)) (length (now (buffer .entry))) (now (image .entry))) (now (reader .entry)) ⌝ }
-    ensures { λ _. ⌜ now (buffer .exit) ≡ filled (readSomeIn (geometryFor (length (now (image .entry))) granularity s c size count) (now (reader .entry)) (length (now (buffer .entry))) (now (image .entry))) (now (buffer .entry)) ⌝ }
-    ensures { λ _. ⌜ now (read .exit) ≡ keptAs chunkLength (readSomeIn (geometryFor (length (now (image .entry))) granularity s c size count) (now (reader .entry)) (length (now (buffer .entry))) (now (image .entry))) (now (read .entry)) ⌝ }
+    ensures { λ r. ⌜ told r (two (now (reader .exit)) (two (now (buffer .exit)) (now (read .exit)))) ≡ tellingBy chunkOut (two (now (reader .entry)) (two (now (buffer .entry)) (now (read .entry)))) (askedIn (geometryIn (now (geometry .entry))) (length (now (image .entry))) (readerOf (now (reader .entry))) (λ g r. readSome g r (length (now (buffer .entry))) (now (image .entry)))) ⌝ }
 {
-    let told = call::geometry_for(image.len(), granularity, s, c, size, count);
-    let GeometryRead::Got(g) = told else {
-        return told.number();
-    };
+    let g = call::geometry(geometry);
     let of = values::reader_of(reader);
     let ReaderRead::Got(r) = of else {
-        return of.number();
+        return call::refusal(g, image.len(), of.number());
     };
-    let a = r.read(g, image, buffer);
-    match a {
-        Reading::Read(n, next) => {
-            *read = n as u32;
-            outs::put_reader(next, reader);
-            0
-        }
-        Reading::Refused(k) => k,
-    }
+    cursors::read(g, image, r, reader, buffer, read)
 }

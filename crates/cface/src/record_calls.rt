@@ -1,120 +1,80 @@
 // The arithmetic of a block's record for C.
+// Made by tools/cface.
 use blocks::record::BlockInfoRead;
 use crossing::call;
-use crossing::call::GeometryRead;
 use crossing::records;
-use medium::geometry::Counted;
 ghost use mathlib.Core.Path.{_≡_};
-ghost use Rattle.medium.specs.Operation.{numberOf};
-ghost use Rattle.crossing.specs.Crossing.{geometryAlone, kept, keptAs};
-ghost use Rattle.crossing.specs.Records.{recordNumbers, flagNumber};
-ghost use Rattle.cface.specs.Blocks.{freeSpaceIn, recordEmptyIn, addUsedBytesIn, updateStatsAfterEraseIn};
+ghost use Rattle.blocks.specs.Record.{freeSpace, recordEmpty, addUsedBytes, updateStatsAfterErase};
+ghost use Rattle.crossing.specs.Crossing.{told, telling, plain, asked, geometryIn};
+ghost use Rattle.crossing.specs.Records.{recordOf, flagNumber, recordNumbers};
 
-// What is left of a block.
+// What is left of a block; 9 where the used bytes pass the block size.
 #[no_mangle]
 pub extern "C" fn stumpchoir_record_free_space(
-    granularity: u8,
-    s: u8,
-    c: u8,
-    size: u32,
-    count: u32,
-    numbers: &[u32; 4],
-    space: &mut u32,
+    geometry: &[u32; 6],
+    record: &[u32; 4],
+    space: &mut u64,
 ) -> u8
-    ensures { λ r. ⌜ r ≡ numberOf (freeSpaceIn (geometryAlone granularity s c size count) (now (numbers .entry))) ⌝ }
-    ensures { λ _. ⌜ now (space .exit) ≡ kept (freeSpaceIn (geometryAlone granularity s c size count) (now (numbers .entry))) (now (space .entry)) ⌝ }
+    ensures { λ r. ⌜ told r (now (space .exit)) ≡ telling plain (now (space .entry)) (asked (geometryIn (now (geometry .entry))) (recordOf (now («record» .entry))) (λ g r. freeSpace g r)) ⌝ }
 {
-    let told = call::geometry_alone(granularity, s, c, size, count);
-    let GeometryRead::Got(g) = told else {
-        return told.number();
-    };
-    let of = records::record_of(numbers);
+    let g = call::geometry(geometry);
+    let of = records::record_of(record);
     let BlockInfoRead::Got(r) = of else {
-        return of.number();
+        return call::refusal_alone(g, of.number());
     };
     let a = r.free_space(g);
-    match a {
-        Counted::Bytes(bytes) => {
-            *space = bytes as u32;
-            0
-        }
-        Counted::Refused(k) => k,
-    }
+    call::hand_count(a, space)
 }
 
-// Whether there is nothing but the header: 1 or 0.
+// Whether nothing but the header is used: 1 or 0.
 #[no_mangle]
 pub extern "C" fn stumpchoir_record_is_empty(
-    granularity: u8,
-    s: u8,
-    c: u8,
-    size: u32,
-    count: u32,
-    numbers: &[u32; 4],
+    geometry: &[u32; 6],
+    record: &[u32; 4],
     empty: &mut u32,
 ) -> u8
-    ensures { λ r. ⌜ r ≡ numberOf (recordEmptyIn (geometryAlone granularity s c size count) (now (numbers .entry))) ⌝ }
-    ensures { λ _. ⌜ now (empty .exit) ≡ keptAs flagNumber (recordEmptyIn (geometryAlone granularity s c size count) (now (numbers .entry))) (now (empty .entry)) ⌝ }
+    ensures { λ r. ⌜ told r (now (empty .exit)) ≡ telling flagNumber (now (empty .entry)) (asked (geometryIn (now (geometry .entry))) (recordOf (now («record» .entry))) (λ g r. recordEmpty g r)) ⌝ }
 {
-    let told = call::geometry_alone(granularity, s, c, size, count);
-    let GeometryRead::Got(g) = told else {
-        return told.number();
-    };
-    let of = records::record_of(numbers);
+    let g = call::geometry(geometry);
+    let of = records::record_of(record);
     let BlockInfoRead::Got(r) = of else {
-        return of.number();
+        return call::refusal_alone(g, of.number());
     };
     let a = r.is_empty(g);
     records::hand_flag(a, empty)
 }
 
-// The record with an object of this total size more.
+// Adds an object's size, aligned up; 9 where the sum passes 4294967295.
 #[no_mangle]
 pub extern "C" fn stumpchoir_record_add_used_bytes(
-    granularity: u8,
-    s: u8,
-    c: u8,
-    size: u32,
-    count: u32,
-    numbers: &mut [u32; 4],
+    geometry: &[u32; 6],
+    record: &mut [u32; 4],
     total_size: u32,
 ) -> u8
-    ensures { λ r. ⌜ r ≡ numberOf (addUsedBytesIn (geometryAlone granularity s c size count) (now (numbers .entry)) «total_size») ⌝ }
-    ensures { λ _. ⌜ now (numbers .exit) ≡ keptAs recordNumbers (addUsedBytesIn (geometryAlone granularity s c size count) (now (numbers .entry)) «total_size») (now (numbers .entry)) ⌝ }
+    ensures { λ r. ⌜ told r (now («record» .exit)) ≡ telling recordNumbers (now («record» .entry)) (asked (geometryIn (now (geometry .entry))) (recordOf (now («record» .entry))) (λ g r. addUsedBytes g r «total_size»)) ⌝ }
 {
-    let told = call::geometry_alone(granularity, s, c, size, count);
-    let GeometryRead::Got(g) = told else {
-        return told.number();
-    };
-    let of = records::record_of(numbers);
+    let g = call::geometry(geometry);
+    let of = records::record_of(record);
     let BlockInfoRead::Got(r) = of else {
-        return of.number();
+        return call::refusal_alone(g, of.number());
     };
     let a = r.add_used_bytes(g, total_size);
-    records::hand_record(a, numbers)
+    records::hand_record(a, record)
 }
 
-// The record of the block once it is formatted.
+// The record of a block that was just formatted; 9 at the last erase count.
 #[no_mangle]
 pub extern "C" fn stumpchoir_record_update_stats_after_erase(
-    granularity: u8,
-    s: u8,
-    c: u8,
-    size: u32,
-    count: u32,
-    numbers: &mut [u32; 4],
+    geometry: &[u32; 6],
+    record: &mut [u32; 4],
 ) -> u8
-    ensures { λ r. ⌜ r ≡ numberOf (updateStatsAfterEraseIn (geometryAlone granularity s c size count) (now (numbers .entry))) ⌝ }
-    ensures { λ _. ⌜ now (numbers .exit) ≡ keptAs recordNumbers (updateStatsAfterEraseIn (geometryAlone granularity s c size count) (now (numbers .entry))) (now (numbers .entry)) ⌝ }
+    ensures { λ r. ⌜ told r (now («record» .exit)) ≡ telling recordNumbers (now («record» .entry)) (asked (geometryIn (now (geometry .entry))) (recordOf (now («record» .entry))) (λ g r. updateStatsAfterErase g r)) ⌝ }
 {
-    let told = call::geometry_alone(granularity, s, c, size, count);
-    let GeometryRead::Got(g) = told else {
-        return told.number();
-    };
-    let of = records::record_of(numbers);
+    let g = call::geometry(geometry);
+    let of = records::record_of(record);
     let BlockInfoRead::Got(r) = of else {
-        return of.number();
+        return call::refusal_alone(g, of.number());
     };
     let a = r.update_stats_after_erase(g);
-    records::hand_record(a, numbers)
+    records::hand_record(a, record)
 }

@@ -1,27 +1,24 @@
 // Writers for C. A writer that came in is as it was after a refusal, and spent after 8.
+// Made by tools/cface.
 use crate::writers;
 use crossing::call;
-use crossing::call::GeometryRead;
 use crossing::kinds;
 use crossing::kinds::ObjectTypeRead;
 use medium::fuse::Answered;
-use medium::geometry::Counted;
 use objects::location::ObjectLocation;
 use writer::writer::ObjectWriter;
 ghost use mathlib.Core.Path.{_≡_};
-ghost use lib.ListN.{length};
-ghost use Rattle.medium.specs.Operation.{run, numberOf};
-ghost use Rattle.crossing.specs.Crossing.{geometryAlone, geometryFor, fuseOf, kept, crossedWith, crossingWith};
-ghost use Rattle.cface.specs.Writers.{writerNumbers, spentAfter, writerSpaceIn, writerPayloadSizeIn, writerTotalSizeIn, allocateIn, appendIn, finalizeIn, deleteIn};
+ghost use Rattle.medium.specs.Operation.{run};
+ghost use Rattle.writer.specs.Writer.{allocate, spaceOf, payloadSize, totalSize, append, finalize, delete};
+ghost use Rattle.crossing.specs.Crossing.{crossedWith, crossingWith, fuseOf, given, geometryIn, told, telling, plain, asked};
+ghost use Rattle.crossing.specs.Kinds.{objectTypeOf};
+ghost use Rattle.crossing.specs.Values.{located};
+ghost use Rattle.cface.specs.Writers.{writerNumbers, writerOf, spentAfter};
 
-// Stores the type of a new object, over Free or over Allocated of the same type.
+// Stores the type (8F, 8E or 8D, else 4) of a new object, over Free or over Allocated of the same type: its writer.
 #[no_mangle]
 pub extern "C" fn stumpchoir_writer_allocate(
-    granularity: u8,
-    s: u8,
-    c: u8,
-    size: u32,
-    count: u32,
+    geometry: &[u32; 6],
     image: &mut [u8],
     fused: bool,
     units: &mut u32,
@@ -30,15 +27,12 @@ pub extern "C" fn stumpchoir_writer_allocate(
     kind: u8,
     writer: &mut [u32; 12],
 ) -> u8
-    ensures { λ r. ⌜ crossedWith r (now (units .exit)) (now (image .exit)) (now (writer .exit)) ≡ crossingWith writerNumbers (now (units .entry)) (now (writer .entry)) (run (fuseOf fused (now (units .entry))) (allocateIn (geometryFor (length (now (image .entry))) granularity s c size count) block offset kind) (now (image .entry))) ⌝ }
+    ensures { λ r. ⌜ crossedWith r (now (units .exit)) (now (image .exit)) (now (writer .exit)) ≡ crossingWith writerNumbers (now (units .entry)) (now (writer .entry)) (run (fuseOf fused (now (units .entry))) (given (geometryIn (now (geometry .entry))) (objectTypeOf kind) (λ g t. allocate g (located block offset) t)) (now (image .entry))) ⌝ }
 {
-    let told = call::geometry_for(image.len(), granularity, s, c, size, count);
-    let GeometryRead::Got(g) = told else {
-        return told.number();
-    };
+    let g = call::geometry(geometry);
     let of = kinds::object_type_of(kind);
     let ObjectTypeRead::Got(t) = of else {
-        return of.number();
+        return call::refusal(g, image.len(), of.number());
     };
     let at = ObjectLocation {
         block: block,
@@ -49,126 +43,83 @@ pub extern "C" fn stumpchoir_writer_allocate(
     writers::hand_out(a, units, writer)
 }
 
-// The payload bytes that still fit: 9 where the writer stands past the end of its block.
+// The payload bytes that still fit; 9 where the writer stands past the end of its block.
 #[no_mangle]
 pub extern "C" fn stumpchoir_writer_space(
-    granularity: u8,
-    s: u8,
-    c: u8,
-    size: u32,
-    count: u32,
+    geometry: &[u32; 6],
     writer: &[u32; 12],
-    space: &mut u32,
+    space: &mut u64,
 ) -> u8
-    ensures { λ r. ⌜ r ≡ numberOf (writerSpaceIn (geometryAlone granularity s c size count) (now (writer .entry))) ⌝ }
-    ensures { λ _. ⌜ now (space .exit) ≡ kept (writerSpaceIn (geometryAlone granularity s c size count) (now (writer .entry))) (now (space .entry)) ⌝ }
+    ensures { λ r. ⌜ told r (now (space .exit)) ≡ telling plain (now (space .entry)) (asked (geometryIn (now (geometry .entry))) (writerOf (now (writer .entry))) (λ g w. spaceOf g w)) ⌝ }
 {
-    let told = call::geometry_alone(granularity, s, c, size, count);
-    let GeometryRead::Got(g) = told else {
-        return told.number();
-    };
+    let g = call::geometry(geometry);
     let of = writers::writer_of(writer);
     let read = of.answer;
     let Answered::Done = read else {
-        return read.number();
+        return call::refusal_alone(g, read.number());
     };
     let w = of.writer;
     let a = w.space(g);
-    let Counted::Bytes(n) = a else {
-        return a.number();
-    };
-    *space = n as u32;
-    0
+    call::hand_count(a, space)
 }
 
 // The payload bytes taken so far, stored or held.
 #[no_mangle]
 pub extern "C" fn stumpchoir_writer_payload_size(
-    granularity: u8,
-    s: u8,
-    c: u8,
-    size: u32,
-    count: u32,
+    geometry: &[u32; 6],
     writer: &[u32; 12],
-    payload: &mut u32,
+    payload_size: &mut u64,
 ) -> u8
-    ensures { λ r. ⌜ r ≡ numberOf (writerPayloadSizeIn (geometryAlone granularity s c size count) (now (writer .entry))) ⌝ }
-    ensures { λ _. ⌜ now (payload .exit) ≡ kept (writerPayloadSizeIn (geometryAlone granularity s c size count) (now (writer .entry))) (now (payload .entry)) ⌝ }
+    ensures { λ r. ⌜ told r (now («payload_size» .exit)) ≡ telling plain (now («payload_size» .entry)) (asked (geometryIn (now (geometry .entry))) (writerOf (now (writer .entry))) (λ g w. payloadSize g w)) ⌝ }
 {
-    let told = call::geometry_alone(granularity, s, c, size, count);
-    let GeometryRead::Got(g) = told else {
-        return told.number();
-    };
+    let g = call::geometry(geometry);
     let of = writers::writer_of(writer);
     let read = of.answer;
     let Answered::Done = read else {
-        return read.number();
+        return call::refusal_alone(g, read.number());
     };
     let w = of.writer;
     let a = w.payload_size(g);
-    let Counted::Bytes(n) = a else {
-        return a.number();
-    };
-    *payload = n as u32;
-    0
+    call::hand_count(a, payload_size)
 }
 
 // Those and the header.
 #[no_mangle]
 pub extern "C" fn stumpchoir_writer_total_size(
-    granularity: u8,
-    s: u8,
-    c: u8,
-    size: u32,
-    count: u32,
+    geometry: &[u32; 6],
     writer: &[u32; 12],
-    total: &mut u32,
+    total_size: &mut u64,
 ) -> u8
-    ensures { λ r. ⌜ r ≡ numberOf (writerTotalSizeIn (geometryAlone granularity s c size count) (now (writer .entry))) ⌝ }
-    ensures { λ _. ⌜ now (total .exit) ≡ kept (writerTotalSizeIn (geometryAlone granularity s c size count) (now (writer .entry))) (now (total .entry)) ⌝ }
+    ensures { λ r. ⌜ told r (now («total_size» .exit)) ≡ telling plain (now («total_size» .entry)) (asked (geometryIn (now (geometry .entry))) (writerOf (now (writer .entry))) (λ g w. totalSize g w)) ⌝ }
 {
-    let told = call::geometry_alone(granularity, s, c, size, count);
-    let GeometryRead::Got(g) = told else {
-        return told.number();
-    };
+    let g = call::geometry(geometry);
     let of = writers::writer_of(writer);
     let read = of.answer;
     let Answered::Done = read else {
-        return read.number();
+        return call::refusal_alone(g, read.number());
     };
     let w = of.writer;
     let a = w.total_size(g);
-    let Counted::Bytes(n) = a else {
-        return a.number();
-    };
-    *total = n as u32;
-    0
+    call::hand_count(a, total_size)
 }
 
-// Takes payload bytes: whole words are stored, less than a word is held.
+// Takes payload bytes: whole words are stored, less than a word is held. 5 where they are more than the space.
 #[no_mangle]
 pub extern "C" fn stumpchoir_writer_write(
-    granularity: u8,
-    s: u8,
-    c: u8,
-    size: u32,
-    count: u32,
+    geometry: &[u32; 6],
     image: &mut [u8],
     fused: bool,
     units: &mut u32,
     writer: &mut [u32; 12],
     src: &[u8],
 ) -> u8
-    ensures { λ r. ⌜ crossedWith r (now (units .exit)) (now (image .exit)) (now (writer .exit)) ≡ spentAfter (crossingWith writerNumbers (now (units .entry)) (now (writer .entry)) (run (fuseOf fused (now (units .entry))) (appendIn (geometryFor (length (now (image .entry))) granularity s c size count) (now (writer .entry)) (now (src .entry))) (now (image .entry)))) ⌝ }
+    ensures { λ r. ⌜ crossedWith r (now (units .exit)) (now (image .exit)) (now (writer .exit)) ≡ spentAfter (crossingWith writerNumbers (now (units .entry)) (now (writer .entry)) (run (fuseOf fused (now (units .entry))) (given (geometryIn (now (geometry .entry))) (writerOf (now (writer .entry))) (λ g w. append g w (now (src .entry)))) (now (image .entry)))) ⌝ }
 {
-    let told = call::geometry_for(image.len(), granularity, s, c, size, count);
-    let GeometryRead::Got(g) = told else {
-        return told.number();
-    };
+    let g = call::geometry(geometry);
     let of = writers::writer_of(writer);
     let read = of.answer;
     let Answered::Done = read else {
-        return read.number();
+        return call::refusal(g, image.len(), read.number());
     };
     let w = of.writer;
     let f = call::fuse_of(fused, units);
@@ -176,29 +127,22 @@ pub extern "C" fn stumpchoir_writer_write(
     writers::hand_back(a, units, writer)
 }
 
-// Ends the object: what is held, the size, and the mark of a finished object.
+// Ends the object: what is held, the size, and the mark of a Finalized object.
 #[no_mangle]
 pub extern "C" fn stumpchoir_writer_finalize(
-    granularity: u8,
-    s: u8,
-    c: u8,
-    size: u32,
-    count: u32,
+    geometry: &[u32; 6],
     image: &mut [u8],
     fused: bool,
     units: &mut u32,
     writer: &mut [u32; 12],
 ) -> u8
-    ensures { λ r. ⌜ crossedWith r (now (units .exit)) (now (image .exit)) (now (writer .exit)) ≡ spentAfter (crossingWith writerNumbers (now (units .entry)) (now (writer .entry)) (run (fuseOf fused (now (units .entry))) (finalizeIn (geometryFor (length (now (image .entry))) granularity s c size count) (now (writer .entry))) (now (image .entry)))) ⌝ }
+    ensures { λ r. ⌜ crossedWith r (now (units .exit)) (now (image .exit)) (now (writer .exit)) ≡ spentAfter (crossingWith writerNumbers (now (units .entry)) (now (writer .entry)) (run (fuseOf fused (now (units .entry))) (given (geometryIn (now (geometry .entry))) (writerOf (now (writer .entry))) (λ g w. finalize g w)) (now (image .entry)))) ⌝ }
 {
-    let told = call::geometry_for(image.len(), granularity, s, c, size, count);
-    let GeometryRead::Got(g) = told else {
-        return told.number();
-    };
+    let g = call::geometry(geometry);
     let of = writers::writer_of(writer);
     let read = of.answer;
     let Answered::Done = read else {
-        return read.number();
+        return call::refusal(g, image.len(), read.number());
     };
     let w = of.writer;
     let f = call::fuse_of(fused, units);
@@ -206,29 +150,22 @@ pub extern "C" fn stumpchoir_writer_finalize(
     writers::hand_back(a, units, writer)
 }
 
-// Deletes the object: one that is not finished gets its size first.
+// Deletes the object: one that is not Finalized gets its size first; of one that is Free or Deleted nothing is stored.
 #[no_mangle]
 pub extern "C" fn stumpchoir_writer_delete(
-    granularity: u8,
-    s: u8,
-    c: u8,
-    size: u32,
-    count: u32,
+    geometry: &[u32; 6],
     image: &mut [u8],
     fused: bool,
     units: &mut u32,
     writer: &mut [u32; 12],
 ) -> u8
-    ensures { λ r. ⌜ crossedWith r (now (units .exit)) (now (image .exit)) (now (writer .exit)) ≡ spentAfter (crossingWith writerNumbers (now (units .entry)) (now (writer .entry)) (run (fuseOf fused (now (units .entry))) (deleteIn (geometryFor (length (now (image .entry))) granularity s c size count) (now (writer .entry))) (now (image .entry)))) ⌝ }
+    ensures { λ r. ⌜ crossedWith r (now (units .exit)) (now (image .exit)) (now (writer .exit)) ≡ spentAfter (crossingWith writerNumbers (now (units .entry)) (now (writer .entry)) (run (fuseOf fused (now (units .entry))) (given (geometryIn (now (geometry .entry))) (writerOf (now (writer .entry))) (λ g w. delete g w)) (now (image .entry)))) ⌝ }
 {
-    let told = call::geometry_for(image.len(), granularity, s, c, size, count);
-    let GeometryRead::Got(g) = told else {
-        return told.number();
-    };
+    let g = call::geometry(geometry);
     let of = writers::writer_of(writer);
     let read = of.answer;
     let Answered::Done = read else {
-        return read.number();
+        return call::refusal(g, image.len(), read.number());
     };
     let w = of.writer;
     let f = call::fuse_of(fused, units);

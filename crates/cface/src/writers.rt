@@ -1,5 +1,6 @@
 // Writers that cross as twelve numbers: header, cursor, held, the four numbers of the tail, spent. Numbers that no writer has give 4.
 use crossing::call;
+use crossing::outs;
 use crossing::values;
 use medium::fuse::Answered;
 use medium::fuse::Stored;
@@ -9,12 +10,13 @@ use objects::location::ObjectLocation;
 use objects::state::CompositeObjectState;
 use writer::writer::ObjectWriter;
 use writer::writer::Writing;
+use writer::writer::Wrote;
 ghost use mathlib.Core.Path.{_≡_};
 ghost use Rattle.medium.specs.Fuse.{storedNumber};
 ghost use Rattle.medium.specs.Operation.{answered, refused, unlessStored};
 ghost use Rattle.crossing.specs.Crossing.{unitsAfter};
 ghost use Rattle.crossing.specs.Records.{flagNumber};
-ghost use Rattle.cface.specs.Writers.{sayableOf, writerOf, writerNumbers, Small, SmallBy, leftBy};
+ghost use Rattle.cface.specs.Writers.{sayableOf, writerOf, writerNumbers, Small, SmallBy, leftBy, wroteStored, wroteTotal};
 
 // A writer beside the answer of its reading.
 pub struct WriterRead {
@@ -117,7 +119,7 @@ pub(crate) fn put_writer(w: ObjectWriter, out: &mut [u32; 12])
     let state = h.state;
     let at = h.location;
     let tail = w.tail;
-    let kind = values::type_number(state) as u32;
+    let kind = outs::type_number(state) as u32;
     let rank = state.rank() as u32;
     *out = [
         kind,
@@ -136,29 +138,29 @@ pub(crate) fn put_writer(w: ObjectWriter, out: &mut [u32; 12])
 }
 
 // The answer of a store of a writer: number and units, and the writer where it is done.
-pub(crate) fn hand_out(told: Writing, units: &mut u32, out: &mut [u32; 12]) -> u8
-    requires { ⌜ SmallBy (told .answer) (told .writer) ⌝ }
-    ensures { λ r. ⌜ r ≡ storedNumber (told .answer) ⌝ }
-    ensures { λ _. ⌜ now (units .exit) ≡ unitsAfter (told .answer) (now (units .entry)) ⌝ }
-    ensures { λ _. ⌜ now (out .exit) ≡ unlessStored (told .answer) (now (out .entry)) (writerNumbers (told .writer)) ⌝ }
+pub(crate) fn hand_out(answer: Writing, units: &mut u32, out: &mut [u32; 12]) -> u8
+    requires { ⌜ SmallBy (answer .answer) (answer .writer) ⌝ }
+    ensures { λ r. ⌜ r ≡ storedNumber (answer .answer) ⌝ }
+    ensures { λ _. ⌜ now (units .exit) ≡ unitsAfter (answer .answer) (now (units .entry)) ⌝ }
+    ensures { λ _. ⌜ now (out .exit) ≡ unlessStored (answer .answer) (now (out .entry)) (writerNumbers (answer .writer)) ⌝ }
 {
-    let answer = told.answer;
-    let w = told.writer;
-    let Stored::Done(_) = answer else {
-        return call::hand_back(answer, units);
+    let stored = answer.answer;
+    let w = answer.writer;
+    let Stored::Done(_) = stored else {
+        return call::hand_back(stored, units);
     };
     put_writer(w, out);
-    call::hand_back(answer, units)
+    call::hand_back(stored, units)
 }
 
 // The same of a writer that came in: after 8 its last number says that it is spent.
-pub(crate) fn hand_back(told: Writing, units: &mut u32, out: &mut [u32; 12]) -> u8
-    requires { ⌜ SmallBy (told .answer) (told .writer) ⌝ }
-    ensures { λ r. ⌜ r ≡ storedNumber (told .answer) ⌝ }
-    ensures { λ _. ⌜ now (units .exit) ≡ unitsAfter (told .answer) (now (units .entry)) ⌝ }
-    ensures { λ _. ⌜ now (out .exit) ≡ leftBy (storedNumber (told .answer)) (unlessStored (told .answer) (now (out .entry)) (writerNumbers (told .writer))) ⌝ }
+pub(crate) fn hand_back(answer: Writing, units: &mut u32, out: &mut [u32; 12]) -> u8
+    requires { ⌜ SmallBy (answer .answer) (answer .writer) ⌝ }
+    ensures { λ r. ⌜ r ≡ storedNumber (answer .answer) ⌝ }
+    ensures { λ _. ⌜ now (units .exit) ≡ unitsAfter (answer .answer) (now (units .entry)) ⌝ }
+    ensures { λ _. ⌜ now (out .exit) ≡ leftBy (storedNumber (answer .answer)) (unlessStored (answer .answer) (now (out .entry)) (writerNumbers (answer .writer))) ⌝ }
 {
-    let n = hand_out(told, units, out);
+    let n = hand_out(answer, units, out);
     spend(n, out);
     n
 }
@@ -168,5 +170,20 @@ fn spend(n: u8, out: &mut [u32; 12])
 {
     if n == 8 {
         out[11] = 1;
+    }
+}
+
+// The answer of an object written whole: number and units, and its total size where it is done.
+pub(crate) fn hand_total(answer: Wrote, units: &mut u32, total: &mut u64) -> u8
+    ensures { λ r. ⌜ r ≡ storedNumber (wroteStored answer) ⌝ }
+    ensures { λ _. ⌜ now (units .exit) ≡ unitsAfter (wroteStored answer) (now (units .entry)) ⌝ }
+    ensures { λ _. ⌜ now (total .exit) ≡ unlessStored (wroteStored answer) (now (total .entry)) (wroteTotal answer) ⌝ }
+{
+    match answer {
+        Wrote::Done(n, f) => {
+            *total = n as u64;
+            call::hand_back(Stored::Done(f), units)
+        }
+        Wrote::Refused(k, f) => call::hand_back(Stored::Refused(k, f), units),
     }
 }

@@ -1,56 +1,58 @@
--- What a function of the C interface hands back, from what its callees gave. Once for every world, operation and question.
+-- What a function of the C interface hands back, from what its callees gave. Once for every store and question.
 use mathlib.Core.Path.{_≡_, refl, sym, ap, _∙_}
 use mathlib.Core.Bool.{Bool, true, false}
-use Prim.Native.Nat.{ℕ, zero, suc}
-use native.Mathlib.Omega.{arith}
+use mathlib.Core.List.{List}
+use Prim.Native.Nat.{ℕ}
+use lib.ListN.{length}
 use Rattle.medium.specs.declared.geometry.Geometry.{Geometry}
 use Rattle.medium.specs.declared.fuse.Fuse.{Fuse}
 use Rattle.medium.specs.declared.fuse.Stored.{Stored}
 use Rattle.medium.specs.declared.fuse.Stored.the-variants.{Done, Refused}
 use Rattle.medium.specs.declared.fuse.Answered.{Answered}
 use Rattle.medium.specs.declared.fuse.Answered.the-variants as heard
-use Rattle.medium.specs.Geometry.{fitOf}
+use Rattle.medium.specs.Granularity.{pick}
+use Rattle.medium.specs.Geometry.{admit, fitOf, geometryOf, geometryOk}
 use Rattle.medium.specs.Fuse.{storedNumber, answeredNumber}
-use Rattle.medium.specs.Operation.{World, OpIn, EndIn, Answer, done, refused, andThen, run, endedBy, orRefuse, numberOf, answered, unlessDone, unlessStored}
+use Rattle.medium.specs.Operation.{Op, EndIn, Answer, done, refused, run, endedBy, answered, unlessDone, unlessStored}
 use Rattle.medium.proofs.Runs.{ask-on, ask-stop}
-use Rattle.medium.proofs.Checks.{Sound, fit-sound}
-use Rattle.crossing.specs.declared.call.GeometryRead.{GeometryRead}
-use Rattle.crossing.specs.declared.call.GeometryRead.the-variants as geometry
-use Rattle.crossing.specs.Crossing.{geometryOf, geometryAlone, geometryAnswer, geometryNumber, fuseOf, under, crossed, crossing, unitsLeft, unitsAfter, kept, crossedWith, crossingWith}
+use Rattle.medium.proofs.Checks.{picked}
+use Rattle.objects.proofs.Answers.{gate-on, gate-stop}
+use Rattle.crossing.specs.Crossing.{geometryIn, behind, admitAlone, fitting, askedBehind, given, fuseOf, crossed, crossing, unitsLeft, unitsAfter, crossedWith, crossingWith, Telling, told, tellingBy}
 
--- the geometry came in, or its byte names none
-module _ (a : Answer Geometry) (t : GeometryRead) (e : geometryAnswer t ≡ a) where
-  pub got : {g : Geometry} → t ≡ geometry.Got g → a ≡ done g
-  got d = sym e ∙ ap geometryAnswer d
+-- ---- the geometry
 
-  pub named-none : {k n : ℕ} → t ≡ geometry.Refused k → n ≡ geometryNumber t → a ≡ refused n
-  named-none d q = rw (q, d) (sym e ∙ ap geometryAnswer d)
+-- numbers that say a geometry
+pub says : (ns : List ℕ) (g : Geometry) → geometryOf ns ≡ done g → geometryIn ns ≡ g
+unfolding geometryIn
+says ns g e = rw e
 
--- a geometry that passed its test is sound
-pub alone-sound : (b s c size count : ℕ) (g : Geometry) → geometryAlone b s c size count ≡ done g → Sound g
-unfolding geometryAlone
-alone-sound b s c size count g e = go (geometryOf b s c size count) e
+-- numbers that say none: 6, before anything else
+pub says-none : (ns : List ℕ) (n room next : ℕ) → geometryOf ns ≡ refused n → admit (geometryIn ns) room next ≡ 6
+unfolding geometryIn admit geometryOk
+says-none ns n room next e = rw e
+
+-- the number of a value, behind the test of a geometry alone
+pub alone-stop : (g : Geometry) (next r : ℕ) → r ≡ fitOf g → (r ≡ 0 → ⊥) → r ≡ admitAlone g next
+unfolding fitOf admitAlone
+alone-stop g next r e n = e ∙ go (geometryOk g) (λ z. n (e ∙ z))
   where
-    more : (x : Geometry) (r : ℕ) → fitOf x ≡ r → andThen (orRefuse r) (λ _. done x) ≡ done g → Sound g
-    more x zero q h = let z : x ≡ g = cc in rw z at (fit-sound x 0 (sym q) refl)
-    more x (suc r) q h = let z : _≡_ {A = ℕ} 0 1 = cc in absurd (omega arith)
+    go : (a : Bool) → (pick {A = ℕ} a 0 6 ≡ 0 → ⊥) → pick {A = ℕ} a 0 6 ≡ pick a next 6
+    go true h = absurd (h refl)
+    go false h = refl
 
-    go : (a : Answer Geometry) → andThen a (λ x. andThen (orRefuse (fitOf x)) (λ _. done x)) ≡ done g → Sound g
-    go (done x) h = more x (fitOf x) refl h
-    go (refused n) h = let z : _≡_ {A = ℕ} 0 1 = cc in absurd (omega arith)
+pub alone-pass : (g : Geometry) (next r : ℕ) → r ≡ fitOf g → r ≡ 0 → next ≡ admitAlone g next
+unfolding fitOf admitAlone
+alone-pass g next r e z = rw (picked (geometryOk g) 0 5 (sym e ∙ z) .0)
 
--- ---- a question
+-- a question that is asked of any geometry
+module _ {A B : Type 0} (g : Geometry) (a : Answer A) (k : A → B → B) (b : B) (r : ℕ) (e : r ≡ fitOf g) where
+  pub fitting-stop : (r ≡ 0 → ⊥) → told r b ≡ tellingBy k b (fitting g a)
+  unfolding fitting tellingBy
+  fitting-stop n = sym (ap (tellingBy k b) (gate-stop (λ _. a) r (fitOf g) e n))
 
-module _ {B : Type 0} (a : Answer Geometry) (q : Geometry → Answer B) (t : GeometryRead) (e : geometryAnswer t ≡ a) where
-  pub question-on : {g : Geometry} → t ≡ geometry.Got g → andThen a q ≡ q g
-  question-on d = ap (λ (x : Answer Geometry). andThen x q) (got a t e d)
-
-  pub question-stop : {k n : ℕ} → t ≡ geometry.Refused k → n ≡ geometryNumber t → andThen a q ≡ refused n
-  question-stop d h = ap (λ (x : Answer Geometry). andThen x q) (named-none a t e d h)
-
-pub number-of-test : (n : ℕ) → numberOf (orRefuse n) ≡ n
-number-of-test zero = refl
-number-of-test (suc n) = refl
+  pub fitting-on : r ≡ 0 → {t : Telling B} → t ≡ tellingBy k b a → t ≡ tellingBy k b (fitting g a)
+  unfolding fitting
+  fitting-on z h = h ∙ sym (ap (tellingBy k b) (gate-on (λ _. a) r (fitOf g) e z))
 
 -- ---- a store
 
@@ -59,52 +61,75 @@ unfolding fuseOf
 units-same true u = refl
 units-same false u = refl
 
-handed : {S A : Type 0} (r : Stored) (x : A) (u : ℕ) (s : S) → crossed (storedNumber r) (unitsAfter r u) s ≡ crossing u (endedBy r x s)
-unfolding crossing unitsAfter
-handed (Done f) x u s = refl
-handed (Refused n f) x u s = refl
+module _ {S A : Type 0} (e : EndIn S A) (u : ℕ) where
+  pub stored : (r : Stored) (x : A) (after : S) (n v : ℕ) → endedBy r x after ≡ e → n ≡ storedNumber r → v ≡ unitsAfter r u → crossed n v after ≡ crossing u e
+  unfolding crossing unitsAfter
+  stored (Done f) x after n v h en ev = rw (← h, en, ev)
+  stored (Refused m f) x after n v h en ev = rw (← h, en, ev)
 
-module _ {W : World} {A : Type 0} (a : Answer Geometry) (o : Geometry → OpIn W A) (fused : Bool) (u : ℕ) (s : W .State) (t : GeometryRead) (e : geometryAnswer t ≡ a) where
-  pub store-on : {g : Geometry} (f : Fuse) (r : Stored) (x : A) (n v : ℕ) (after : W .State)
-      → t ≡ geometry.Got g → f ≡ fuseOf fused u → endedBy r x after ≡ run f (o g) s → n ≡ storedNumber r → v ≡ unitsAfter r u
-      → crossed n v after ≡ crossing u (run (fuseOf fused u) (under a o) s)
-  unfolding under
-  store-on f r x n v after d ef er en ev =
-      rw (ask-on {W = W} (fuseOf fused u) (λ _. a) o s (got a t e d), ← ef, ← er, en, ev) (handed r x u after)
+  stopped : (fused : Bool) (n : ℕ) (s : S) → e ≡ record { answer = refused n; fuse = fuseOf fused u; state = s } → crossed n u s ≡ crossing u e
+  unfolding crossing
+  stopped fused n s h = rw (h, units-same)
 
-  pub store-stop : {k n : ℕ} → t ≡ geometry.Refused k → n ≡ geometryNumber t
-      → crossed n u s ≡ crossing u (run (fuseOf fused u) (under a o) s)
-  unfolding under crossing
-  store-stop d h =
-      rw (ask-stop {W = W} (fuseOf fused u) (λ _. a) o s (named-none a t e d h), units-same)
-
--- ---- an answer that stands beside the value it fills
-
-pub heard-kept : {A : Type 0} (r : Answered) (n : ℕ) (before after : A) → n ≡ answeredNumber r → after ≡ unlessDone r before after
-    → (n ≡ numberOf (answered r after)) × (after ≡ kept (answered r after) before)
-heard-kept heard.Done n before after e q = (e, refl)
-heard-kept (heard.Refused k) n before after e q = (e, q)
-
--- ---- a value that came in, one after the other
-
-module _ {W : World} {X A : Type 0} (f : Fuse) (a : Answer X) (o : X → OpIn W A) (s : W .State) where
-  pub under-on : {x : X} → a ≡ done x → run f (under a o) s ≡ run f (o x) s
-  unfolding under
-  under-on d = ask-on {W = W} f (λ _. a) o s d
-
-  pub under-stop : {n : ℕ} → a ≡ refused n → run f (under a o) s ≡ record { answer = refused n; fuse = f; state = s }
-  unfolding under
-  under-stop d = ask-stop {W = W} f (λ _. a) o s d
-
--- ---- a store with a value beside its number
-
+-- with a value beside its number
 module _ {S A B : Type 0} (e : EndIn S A) (k : A → B) (u : ℕ) (b : B) where
-  pub with-on : (r : Stored) (x : A) (after : S) (n v : ℕ) (w : B) → endedBy r x after ≡ e → n ≡ storedNumber r → v ≡ unitsAfter r u → w ≡ unlessStored r b (k x)
+  pub stored-with : (r : Stored) (x : A) (after : S) (n v : ℕ) (w : B) → endedBy r x after ≡ e → n ≡ storedNumber r → v ≡ unitsAfter r u → w ≡ unlessStored r b (k x)
       → crossedWith n v after w ≡ crossingWith k u b e
   unfolding crossingWith unitsAfter
-  with-on (Done f) x after n v w h en ev ew = rw (← h, en, ev, ew)
-  with-on (Refused m f) x after n v w h en ev ew = rw (← h, en, ev, ew)
+  stored-with (Done f) x after n v w h en ev ew = rw (← h, en, ev, ew)
+  stored-with (Refused m f) x after n v w h en ev ew = rw (← h, en, ev, ew)
 
-  pub with-stop : (fused : Bool) (n : ℕ) (s : S) → e ≡ record { answer = refused n; fuse = fuseOf fused u; state = s } → crossedWith n u s b ≡ crossingWith k u b e
+  pub stopped-with : (fused : Bool) (n : ℕ) (s : S) → e ≡ record { answer = refused n; fuse = fuseOf fused u; state = s } → crossedWith n u s b ≡ crossingWith k u b e
   unfolding crossingWith
-  with-stop fused n s h = rw (h, units-same)
+  stopped-with fused n s h = rw (h, units-same)
+
+-- ---- a store of a value that came in
+
+module _ {X A : Type 0} (g : Geometry) (a : Answer X) (o : Geometry → X → Op A) (f : Fuse) (s : List ℕ) where
+  pub given-on : {x : X} → a ≡ done x → run f (given g a o) s ≡ run f (o g x) s
+  unfolding given
+  given-on {x} d = ask-on f (λ img. behind (admit g (length img)) a) (λ x. o g x) s (ap (behind (admit g (length s))) d)
+
+  pub given-stop : {m : ℕ} → a ≡ refused m → run f (given g a o) s ≡ record { answer = refused (admit g (length s) m); fuse = f; state = s }
+  unfolding given
+  given-stop {m} d = ask-stop f (λ img. behind (admit g (length img)) a) (λ x. o g x) s (ap (behind (admit g (length s))) d)
+
+module _ {X A : Type 0} (g : Geometry) (a : Answer X) (o : Geometry → X → Op A) (fused : Bool) (u : ℕ) (s : List ℕ) where
+  -- it is one: what crosses is the store's
+  pub given-stored : {x : X} (f : Fuse) (r : Stored) (y : A) (after : List ℕ) (n v : ℕ)
+      → a ≡ done x → f ≡ fuseOf fused u → endedBy r y after ≡ run f (o g x) s → n ≡ storedNumber r → v ≡ unitsAfter r u
+      → crossed n v after ≡ crossing u (run (fuseOf fused u) (given g a o) s)
+  given-stored f r y after n v d ef er = stored _ u r y after n v ((rw ef at er) ∙ sym (given-on g a o (fuseOf fused u) s d))
+
+  -- it is none: k is its number
+  pub none-stored : {m k n : ℕ} → a ≡ refused m → k ≡ m → n ≡ admit g (length s) k → crossed n u s ≡ crossing u (run (fuseOf fused u) (given g a o) s)
+  none-stored {m} {k} {n} d e q = stopped _ u fused n s (rw (q, e) (given-stop g a o (fuseOf fused u) s d))
+
+module _ {X A B : Type 0} (g : Geometry) (a : Answer X) (o : Geometry → X → Op A) (k : A → B) (fused : Bool) (u : ℕ) (b : B) (s : List ℕ) where
+  pub given-stored-with : {x : X} (f : Fuse) (r : Stored) (y : A) (after : List ℕ) (n v : ℕ) (w : B)
+      → a ≡ done x → f ≡ fuseOf fused u → endedBy r y after ≡ run f (o g x) s → n ≡ storedNumber r → v ≡ unitsAfter r u → w ≡ unlessStored r b (k y)
+      → crossedWith n v after w ≡ crossingWith k u b (run (fuseOf fused u) (given g a o) s)
+  given-stored-with f r y after n v w d ef er = stored-with _ k u b r y after n v w ((rw ef at er) ∙ sym (given-on g a o (fuseOf fused u) s d))
+
+  pub none-stored-with : {m j n : ℕ} → a ≡ refused m → j ≡ m → n ≡ admit g (length s) j
+      → crossedWith n u s b ≡ crossingWith k u b (run (fuseOf fused u) (given g a o) s)
+  none-stored-with {m} {j} {n} d e q = stopped-with _ k u b fused n s (rw (q, e) (given-stop g a o (fuseOf fused u) s d))
+
+-- ---- a question of a value that came in
+
+module _ {X A B : Type 0} (first : ℕ → ℕ) (g : Geometry) (a : Answer X) (q : Geometry → X → Answer A) (k : A → B → B) (b : B) where
+  pub asked-told : {x : X} {z : Answer A} {t : Telling B} → a ≡ done x → z ≡ q g x → t ≡ tellingBy k b z → t ≡ tellingBy k b (askedBehind first g a q)
+  unfolding askedBehind
+  asked-told d e h = rw (d, ← e) h
+
+  pub none-told : {m j n : ℕ} → a ≡ refused m → j ≡ m → n ≡ first j → told n b ≡ tellingBy k b (askedBehind first g a q)
+  unfolding askedBehind tellingBy
+  none-told d e h = rw (d, h, e)
+
+-- ---- an answer that stands beside the bytes that it fills
+
+pub filled-told : (r : Answered) (n : ℕ) (before after : List ℕ) (a : Answer (List ℕ)) → n ≡ answeredNumber r → answered r after ≡ a → after ≡ unlessDone r before after
+    → told n after ≡ tellingBy (λ bs _. bs) before a
+unfolding tellingBy
+filled-told heard.Done n before after a e h q = rw (← h, e)
+filled-told (heard.Refused k) n before after a e h q = rw (← h, e) (ap (told k) q)

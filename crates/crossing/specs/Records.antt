@@ -9,6 +9,7 @@ use Rattle.medium.specs.Granularity.{pick}
 use Rattle.medium.specs.Operation.{Answer, done, refused, numberOf}
 use Rattle.blocks.specs.declared.header.BlockType.{BlockType}
 use Rattle.blocks.specs.declared.header.BlockType.the-variants.{Metadata, Data, Undefined}
+use Rattle.blocks.specs.declared.header.BlockHeaderKind.{BlockHeaderKind}
 use Rattle.blocks.specs.declared.header.BlockHeader.{BlockHeader}
 use Rattle.blocks.specs.declared.record.BlockInfo.{BlockInfo}
 use Rattle.blocks.specs.BlockHeader.{kindNumber}
@@ -36,6 +37,9 @@ blockTypeNumber r = numberOf (blockTypeAnswer r)
 
 abbrev pub blockHeaderNumbers : BlockHeader → List ℕ
 blockHeaderNumbers h = kindNumber (h .kind) ∷ h .«erase_count» ∷ []
+
+abbrev pub blockHeaderOf : BlockHeaderKind → ℕ → BlockHeader
+blockHeaderOf k n = record { kind = k; «erase_count» = n }
 
 -- ---- a record: kind, erase count, used bytes, allow mark
 

@@ -19,25 +19,14 @@ use Rattle.objects.specs.declared.metadata.MetadataObjectHeader.{MetadataObject
 use Rattle.objects.specs.declared.iterator.ObjectIterator.{ObjectIterator}
 use Rattle.objects.specs.Types.{typeByte, TypeSaid, typed, untyped, typeOf, rankOf}
 use Rattle.objects.specs.Reader.{possible}
-use Rattle.objects.specs.Listing.{placed}
+use Rattle.objects.specs.Info.{Info, found, none}
+use Rattle.objects.specs.Listing.{placed, Met, object, freePlace, blockEnd}
+use Rattle.crossing.specs.Crossing.{Two, two}
+use Rattle.crossing.specs.declared.values.Target.{Target}
 use Rattle.crossing.specs.declared.values.TargetRead.{TargetRead}
 use Rattle.crossing.specs.declared.values.TargetRead.the-variants as target
 
--- ---- a state: 0 Free, 1 Allocated, 2 Finalized, 3 Deleted
-
-abbrev pub targetAnswer : TargetRead → Answer ObjectState
-targetAnswer (target.Got s) = done s
-targetAnswer (target.Refused n) = refused n
-
-abbrev pub targetNumber : TargetRead → ℕ
-targetNumber r = numberOf (targetAnswer r)
-
-unfoldable pub targetOf : ℕ → Answer ObjectState
-targetOf n =
-    pick (eqb n 0) (done state.Free)
-    (pick (eqb n 1) (done state.Allocated)
-    (pick (eqb n 2) (done state.Finalized)
-    (pick (eqb n 3) (done state.Deleted) (refused 4))))
+-- ---- the state of an object: type and state number
 
 unfoldable pub dataStateOf : ObjectType → ℕ → Answer CompositeObjectState
 dataStateOf t n =
@@ -83,6 +72,38 @@ headerOf ns = headerFrom (getD ns 0 0) (getD ns 1 0) (getD ns 2 0) (getD ns 3 0)
 
 abbrev pub headerNumbers : ObjectHeader → List ℕ
 headerNumbers h = typeNumber (h .state) ∷ rankOf (h .state) ∷ h .size ∷ locationNumbers (h .location)
+
+-- ---- a header with the state that its object is to go to: 0 Free, 1 Allocated, 2 Finalized, 3 Deleted
+
+abbrev pub targetAnswer : TargetRead → Answer Target
+targetAnswer (target.Got t) = done t
+targetAnswer (target.Refused n) = refused n
+
+abbrev pub targetNumber : TargetRead → ℕ
+targetNumber r = numberOf (targetAnswer r)
+
+unfoldable pub objectStateOf : ℕ → Answer ObjectState
+objectStateOf n =
+    pick (eqb n 0) (done state.Free)
+    (pick (eqb n 1) (done state.Allocated)
+    (pick (eqb n 2) (done state.Finalized)
+    (pick (eqb n 3) (done state.Deleted) (refused 4))))
+
+unfoldable pub targetOf : List ℕ → ℕ → Answer Target
+targetOf ns n = andThen (headerOf ns) (λ h. andThen (objectStateOf n) (λ to. done (record { header = h; state = to })))
+
+-- ---- whether an object is there: 1 and its header, or 0
+
+abbrev pub infoOut : Info → Two ℕ (List ℕ) → Two ℕ (List ℕ)
+infoOut (found h) old = two 1 (headerNumbers h)
+infoOut none old = two 0 (old .second)
+
+-- ---- what stands at an iterator: 1 with the header and the iterator behind it, 0 where the place is free, 2 at the end
+
+abbrev pub nextOut : Met → Two (List ℕ) (Two ℕ (List ℕ)) → Two (List ℕ) (Two ℕ (List ℕ))
+nextOut (object h i) old = two (iteratorNumbers i) (two 1 (headerNumbers h))
+nextOut freePlace old = two (old .first) (two 0 (old .second .second))
+nextOut blockEnd old = two (old .first) (two 2 (old .second .second))
 
 -- ---- readers: header, cursor
 

@@ -1,81 +1,54 @@
-// What crosses between C and the library: a geometry and a fuse come in, 01's number and the units that are left go out.
+// What crosses in every call: a geometry and a fuse come in, 01's number and the units that are left go out.
 use medium::fuse::Fuse;
 use medium::fuse::Stored;
+use medium::geometry;
+use medium::geometry::Counted;
 use medium::geometry::Geometry;
+use medium::geometry::GeometryRead;
 use medium::granularity::Granularity;
-use medium::granularity::GranularityRead;
 ghost use mathlib.Core.Path.{_≡_};
+ghost use Rattle.medium.specs.Geometry.{admit};
 ghost use Rattle.medium.specs.Fuse.{storedNumber};
-ghost use Rattle.crossing.specs.Crossing.{geometryOf, geometryAlone, geometryFor, geometryAnswer, geometryNumber, fuseOf, unitsLeft, unitsAfter};
+ghost use Rattle.medium.specs.Operation.{counted};
+ghost use Rattle.crossing.specs.Crossing.{geometryIn, admitAlone, fuseOf, unitsLeft, unitsAfter, told, telling, plain};
 
-pub enum GeometryRead {
-    Got(Geometry),
-    Refused(u8),
-}
-
-impl GeometryRead {
-    pub fn number(self) -> u8
-        ensures { λ r. ⌜ r ≡ geometryNumber self ⌝ }
-    {
-        match self {
-            GeometryRead::Got(_) => 0,
-            GeometryRead::Refused(k) => k,
-        }
-    }
-}
-
-// The geometry that five numbers say, or 6 for a granularity byte that names none.
-pub fn geometry_of(granularity: u8, s: u8, c: u8, size: u32, count: u32) -> GeometryRead
-    ensures { λ r. ⌜ geometryAnswer r ≡ geometryOf granularity s c size count ⌝ }
+// The geometry that six numbers say. Where they say none it is one with no bytes, which every call refuses with 6.
+pub fn geometry(n: &[u32; 6]) -> Geometry
+    ensures { λ r. ⌜ r ≡ geometryIn (now (n .entry)) ⌝ }
 {
-    let told = Granularity::of_byte(granularity);
-    let GranularityRead::Got(k) = told else {
-        return GeometryRead::Refused(told.number());
+    let read = geometry::of_numbers(n);
+    let GeometryRead::Got(g) = read else {
+        return Geometry {
+            granularity: Granularity::Bit,
+            s: 0,
+            c: 0,
+            size: 0,
+            count: 0,
+        };
     };
-    GeometryRead::Got(Geometry {
-        granularity: k,
-        s: s,
-        c: c,
-        size: size,
-        count: count,
-    })
+    g
 }
 
-// The same for a call with no image: 6 also where a rule of the geometry is broken.
-pub fn geometry_alone(granularity: u8, s: u8, c: u8, size: u32, count: u32) -> GeometryRead
-    ensures { λ r. ⌜ geometryAnswer r ≡ geometryAlone granularity s c size count ⌝ }
+// The number of a value whose numbers say none, for a call with an image of so many bytes: 6 and 7 come first.
+pub fn refusal(g: Geometry, room: usize, k: u8) -> u8
+    ensures { λ r. ⌜ r ≡ admit g room k ⌝ }
 {
-    let told = geometry_of(granularity, s, c, size, count);
-    let GeometryRead::Got(g) = told else {
-        return told;
-    };
-    let bad = medium::geometry::fit(g);
+    let bad = geometry::check(g, room);
     if bad != 0 {
-        return GeometryRead::Refused(bad);
+        return bad;
     }
-    GeometryRead::Got(g)
+    k
 }
 
-// And for a call with an image of so many bytes: 6, then 7.
-pub fn geometry_for(
-    room: usize,
-    granularity: u8,
-    s: u8,
-    c: u8,
-    size: u32,
-    count: u32,
-) -> GeometryRead
-    ensures { λ r. ⌜ geometryAnswer r ≡ geometryFor room granularity s c size count ⌝ }
+// The same for a call with no image.
+pub fn refusal_alone(g: Geometry, k: u8) -> u8
+    ensures { λ r. ⌜ r ≡ admitAlone g k ⌝ }
 {
-    let told = geometry_of(granularity, s, c, size, count);
-    let GeometryRead::Got(g) = told else {
-        return told;
-    };
-    let bad = medium::geometry::check(g, room);
+    let bad = geometry::fit(g);
     if bad != 0 {
-        return GeometryRead::Refused(bad);
+        return bad;
     }
-    GeometryRead::Got(g)
+    k
 }
 
 // The fuse that a flag and a count of units say.
@@ -112,5 +85,18 @@ fn leave(f: Fuse, units: &mut u32)
 {
     if let Fuse::Units(k) = f {
         *units = k;
+    }
+}
+
+// The number of a count's answer, and the count where there is one.
+pub fn hand_count(answer: Counted, out: &mut u64) -> u8
+    ensures { λ r. ⌜ told r (now (out .exit)) ≡ telling plain (now (out .entry)) (counted answer) ⌝ }
+{
+    match answer {
+        Counted::Bytes(n) => {
+            *out = n as u64;
+            0
+        }
+        Counted::Refused(k) => k,
     }
 }

@@ -6,11 +6,10 @@ use blocks::header::BlockType;
 use blocks::record::BlockInfo;
 use blocks::record::BlockInfoRead;
 ghost use mathlib.Core.Path.{_≡_};
-ghost use Rattle.medium.specs.Operation.{numberOf};
 ghost use Rattle.blocks.specs.BlockHeader.{headerAnswer};
 ghost use Rattle.blocks.specs.Format.{emptinessAnswer};
 ghost use Rattle.blocks.specs.Record.{infoAnswer};
-ghost use Rattle.crossing.specs.Crossing.{keptAs};
+ghost use Rattle.crossing.specs.Crossing.{told, telling};
 ghost use Rattle.crossing.specs.Records.{blockTypeOf, blockTypeAnswer, blockTypeNumber, recordOf, recordNumbers, blockHeaderNumbers, flagNumber};
 
 // What a type's number says.
@@ -66,11 +65,10 @@ fn put_record(r: BlockInfo, out: &mut [u32; 4])
 }
 
 // The number of an answer, and the header where there is one.
-pub fn hand_header(told: BlockHeaderRead, out: &mut [u32; 2]) -> u8
-    ensures { λ r. ⌜ r ≡ numberOf (headerAnswer told) ⌝ }
-    ensures { λ _. ⌜ now (out .exit) ≡ keptAs blockHeaderNumbers (headerAnswer told) (now (out .entry)) ⌝ }
+pub fn hand_header(answer: BlockHeaderRead, out: &mut [u32; 2]) -> u8
+    ensures { λ r. ⌜ told r (now (out .exit)) ≡ telling blockHeaderNumbers (now (out .entry)) (headerAnswer answer) ⌝ }
 {
-    match told {
+    match answer {
         BlockHeaderRead::Got(h) => {
             put_header(h, out);
             0
@@ -80,11 +78,10 @@ pub fn hand_header(told: BlockHeaderRead, out: &mut [u32; 2]) -> u8
 }
 
 // The same of a record.
-pub fn hand_record(told: BlockInfoRead, out: &mut [u32; 4]) -> u8
-    ensures { λ r. ⌜ r ≡ numberOf (infoAnswer told) ⌝ }
-    ensures { λ _. ⌜ now (out .exit) ≡ keptAs recordNumbers (infoAnswer told) (now (out .entry)) ⌝ }
+pub fn hand_record(answer: BlockInfoRead, out: &mut [u32; 4]) -> u8
+    ensures { λ r. ⌜ told r (now (out .exit)) ≡ telling recordNumbers (now (out .entry)) (infoAnswer answer) ⌝ }
 {
-    match told {
+    match answer {
         BlockInfoRead::Got(r) => {
             put_record(r, out);
             0
@@ -94,11 +91,10 @@ pub fn hand_record(told: BlockInfoRead, out: &mut [u32; 4]) -> u8
 }
 
 // And of whether something is empty: 1 or 0.
-pub fn hand_flag(told: Emptiness, out: &mut u32) -> u8
-    ensures { λ r. ⌜ r ≡ numberOf (emptinessAnswer told) ⌝ }
-    ensures { λ _. ⌜ now (out .exit) ≡ keptAs flagNumber (emptinessAnswer told) (now (out .entry)) ⌝ }
+pub fn hand_flag(answer: Emptiness, out: &mut u32) -> u8
+    ensures { λ r. ⌜ told r (now (out .exit)) ≡ telling flagNumber (now (out .entry)) (emptinessAnswer answer) ⌝ }
 {
-    match told {
+    match answer {
         Emptiness::Empty => {
             *out = 1;
             0

@@ -1,7 +1,5 @@
-// Values that cross as arrays of numbers: a location, a header, a reader, a metadata header and an iterator. Numbers that no value has give 4.
-use crate::call;
-use medium::fuse::Stored;
-use objects::header::Headed;
+// Values that come in as numbers: a header, alone or with a state to go to, a reader, a metadata header and an iterator. Numbers that no
+// value has give 4.
 use objects::header::HeaderRead;
 use objects::header::ObjectHeader;
 use objects::iterator::ObjectIterator;
@@ -17,43 +15,10 @@ use objects::state::StateRead;
 use objects::types::ObjectType;
 use objects::types::TypeRead;
 ghost use mathlib.Core.Path.{_≡_};
-ghost use Rattle.medium.specs.Fuse.{storedNumber};
-ghost use Rattle.medium.specs.Operation.{unlessStored};
 ghost use Rattle.objects.specs.Header.{stateAnswer, headerAnswer};
 ghost use Rattle.objects.specs.Reader.{readerAnswer};
 ghost use Rattle.objects.specs.Metadata.{metadataAnswer};
-ghost use Rattle.crossing.specs.Crossing.{unitsAfter};
-ghost use Rattle.crossing.specs.Values.{targetOf, targetAnswer, targetNumber, dataStateOf, stateOf, typeNumber, headerFrom, headerOf, headerNumbers, readerOf, metadataOf, iteratorOf, iteratorNumbers, locationNumbers};
-
-// What a state number says.
-pub enum TargetRead {
-    Got(ObjectState),
-    Refused(u8),
-}
-
-impl TargetRead {
-    pub fn number(self) -> u8
-        ensures { λ r. ⌜ r ≡ targetNumber self ⌝ }
-    {
-        match self {
-            TargetRead::Got(_) => 0,
-            TargetRead::Refused(k) => k,
-        }
-    }
-}
-
-// The state that a number from 0 to 3 says.
-pub fn target_of(state: u8) -> TargetRead
-    ensures { λ r. ⌜ targetAnswer r ≡ targetOf state ⌝ }
-{
-    match state {
-        0 => TargetRead::Got(ObjectState::Free),
-        1 => TargetRead::Got(ObjectState::Allocated),
-        2 => TargetRead::Got(ObjectState::Finalized),
-        3 => TargetRead::Got(ObjectState::Deleted),
-        _ => TargetRead::Refused(4),
-    }
-}
+ghost use Rattle.crossing.specs.Values.{targetOf, targetAnswer, targetNumber, dataStateOf, stateOf, headerFrom, headerOf, readerOf, metadataOf, iteratorOf};
 
 // The state of an object of a type: 1 to 3.
 fn data_state_of(t: ObjectType, state: u32) -> StateRead
@@ -85,16 +50,6 @@ pub fn state_of(kind: u32, state: u32) -> StateRead
     }
 }
 
-// The type number of a state, FF for Free.
-pub fn type_number(state: CompositeObjectState) -> u8
-    ensures { λ r. ⌜ r ≡ typeNumber state ⌝ }
-{
-    match state {
-        CompositeObjectState::Free => ObjectType::FREE,
-        CompositeObjectState::Allocated(t, _) => t.byte(),
-    }
-}
-
 // A header of five numbers.
 pub fn header_from(kind: u32, state: u32, size: u32, block: u32, offset: u32) -> HeaderRead
     ensures { λ r. ⌜ headerAnswer r ≡ headerFrom kind state size block offset ⌝ }
@@ -119,35 +74,49 @@ pub fn header_of(n: &[u32; 5]) -> HeaderRead
     header_from(n[0], n[1], n[2], n[3], n[4])
 }
 
-pub fn put_header(h: ObjectHeader, out: &mut [u32; 5])
-    ensures { λ _. ⌜ now (out .exit) ≡ headerNumbers h ⌝ }
-{
-    let state = h.state;
-    let at = h.location;
-    let kind = type_number(state) as u32;
-    let rank = state.rank() as u32;
-    *out = [kind, rank, h.size, at.block, at.offset];
+// A header and the state that its object is to go to.
+pub struct Target {
+    pub header: ObjectHeader,
+    pub state: ObjectState,
 }
 
-// The answer of a store of a header: number and units, and the header where it is done.
-pub fn hand_back(told: Headed, units: &mut u32, out: &mut [u32; 5]) -> u8
-    ensures { λ r. ⌜ r ≡ storedNumber (told .answer) ⌝ }
-    ensures { λ _. ⌜ now (units .exit) ≡ unitsAfter (told .answer) (now (units .entry)) ⌝ }
-    ensures { λ _. ⌜ now (out .exit) ≡ unlessStored (told .answer) (now (out .entry)) (headerNumbers (told .header)) ⌝ }
+pub enum TargetRead {
+    Got(Target),
+    Refused(u8),
+}
+
+impl TargetRead {
+    pub fn number(self) -> u8
+        ensures { λ r. ⌜ r ≡ targetNumber self ⌝ }
+    {
+        match self {
+            TargetRead::Got(_) => 0,
+            TargetRead::Refused(k) => k,
+        }
+    }
+}
+
+// What the numbers of a header and a number from 0 to 3 say.
+pub fn target_of(n: &[u32; 5], state: u8) -> TargetRead
+    ensures { λ r. ⌜ targetAnswer r ≡ targetOf (now (n .entry)) state ⌝ }
 {
-    let answer = told.answer;
-    let h = told.header;
-    let Stored::Done(_) = answer else {
-        return call::hand_back(answer, units);
+    let told = header_of(n);
+    let HeaderRead::Got(h) = told else {
+        return TargetRead::Refused(told.number());
     };
-    put_header(h, out);
-    call::hand_back(answer, units)
-}
-
-pub fn put_location(at: ObjectLocation, out: &mut [u32; 2])
-    ensures { λ _. ⌜ now (out .exit) ≡ locationNumbers at ⌝ }
-{
-    *out = [at.block, at.offset];
+    let to = match state {
+        0 => ObjectState::Free,
+        1 => ObjectState::Allocated,
+        2 => ObjectState::Finalized,
+        3 => ObjectState::Deleted,
+        _ => {
+            return TargetRead::Refused(4);
+        }
+    };
+    TargetRead::Got(Target {
+        header: h,
+        state: to,
+    })
 }
 
 pub fn iterator_of(n: &[u32; 2]) -> ObjectIterator
@@ -159,13 +128,6 @@ pub fn iterator_of(n: &[u32; 2]) -> ObjectIterator
             offset: n[1],
         },
     }
-}
-
-pub fn put_iterator(i: ObjectIterator, out: &mut [u32; 2])
-    ensures { λ _. ⌜ now (out .exit) ≡ iteratorNumbers i ⌝ }
-{
-    let at = i.location;
-    *out = [at.block, at.offset];
 }
 
 // A header and a cursor of at most 65,536.

@@ -1,22 +1,10 @@
-use Rattle.crossing.proofs.Crossings.{store-on, store-stop}
+use Rattle.crossing.proofs.Crossings.{stored}
 use borrow.Author.Needs.{needs}
 use Rattle.cface.proofs.block_calls.stumpchoir_format_storage.Statement.{statement}
 use Rattle.cface.proofs.block_calls.stumpchoir_format_storage.Tie as tie
 
-geometry-of-requires : tie.Need-geometry-of-requires
-geometry-of-requires c κs = search needs
-
-enum-known-told : tie.Need-enum-known-told
-enum-known-told c = search needs
-
-enum-told : tie.Need-enum-told
-enum-told c = search needs
-
-number-requires : tie.Need-number-requires
-number-requires c κs = search needs
-
-returns : tie.Need-returns
-returns c = store-stop _ _ _ _ _ _ (c .before .before .before .geometry-of .ensures) (c .before .enum-told .given .1) (c .number .ensures)
+geometry-requires : tie.Need-geometry-requires
+geometry-requires c κs = search needs
 
 fuse-of-requires : tie.Need-fuse-of-requires
 fuse-of-requires c κs = search needs
@@ -30,20 +18,16 @@ hand-back-requires c κs = search needs
 same-length : tie.Need-same-length
 same-length c = search needs
 
-returns-2 : tie.Need-returns-2
-returns-2 c = store-on _ _ _ _ _ _ (c .before .before .before .before .before .before .before .before .before .before .before .geometry-of .ensures) _ _ tt _ _ _ (c .before .before .before .before .before .before .before .before .before .told .given .1) (c .before .before .before .before .before .before .fuse-of .ensures) (c .before .before .before .before .format-storage .ensures) (c .hand-back .ensures .0) (c .hand-back .ensures .1)
+returns : tie.Need-returns
+returns c = rw (← c .before .before .before .before .before .before .before .before .geometry .ensures, ← c .before .before .before .before .before .before .fuse-of .ensures) (stored _ _ _ _ _ _ _ (c .before .before .before .before .format-storage .ensures) (c .hand-back .ensures .0) (c .hand-back .ensures .1))
 
 pub stumpchoir-format-storage-spec : {M : Type 1} → statement M
 stumpchoir-format-storage-spec =
     tie.close
     (tie.spec
-    geometry-of-requires
-    enum-known-told
-    enum-told
-    number-requires
-    returns
+    geometry-requires
     fuse-of-requires
     format-storage-requires
     hand-back-requires
     same-length
-    returns-2)
+    returns)

@@ -1,14 +1,17 @@
-use mathlib.Core.Path.{sym, _∙_}
-use Rattle.crossing.proofs.Crossings.{got, named-none, under-on, under-stop, with-on, with-stop}
+use mathlib.Core.Path.{sym}
+use Rattle.crossing.proofs.Crossings.{given-stored-with, none-stored-with}
 use borrow.Author.Needs.{needs}
 use Rattle.cface.proofs.header_calls.stumpchoir_update_state.Statement.{statement}
 use Rattle.cface.proofs.header_calls.stumpchoir_update_state.Tie as tie
 
-geometry-for-requires : tie.Need-geometry-for-requires
-geometry-for-requires c κs = search needs
+geometry-requires : tie.Need-geometry-requires
+geometry-requires c κs = search needs
 
-enum-known-told : tie.Need-enum-known-told
-enum-known-told c = search needs
+target-of-requires : tie.Need-target-of-requires
+target-of-requires c κs = search needs
+
+enum-known-of : tie.Need-enum-known-of
+enum-known-of c = search needs
 
 enum-told : tie.Need-enum-told
 enum-told c = search needs
@@ -16,38 +19,11 @@ enum-told c = search needs
 number-requires : tie.Need-number-requires
 number-requires c κs = search needs
 
+refusal-requires : tie.Need-refusal-requires
+refusal-requires c κs = search needs
+
 returns : tie.Need-returns
-returns c = with-stop _ _ _ _ _ _ _ (under-stop _ _ _ _ (named-none _ _ (c .before .before .before .geometry-for .ensures) (c .before .enum-told .given .1) (c .number .ensures)))
-
-header-of-requires : tie.Need-header-of-requires
-header-of-requires c κs = search needs
-
-enum-known-of : tie.Need-enum-known-of
-enum-known-of c = search needs
-
-enum-told-2 : tie.Need-enum-told-2
-enum-told-2 c = search needs
-
-number-requires-2 : tie.Need-number-requires-2
-number-requires-2 c κs = search needs
-
-returns-2 : tie.Need-returns-2
-returns-2 c = rw (c .number2 .ensures, c .before .enum-told2 .given .1) (with-stop _ _ _ _ _ _ _ (under-on _ _ _ _ (got _ _ (c .before .before .before .before .before .before .before .before .geometry-for .ensures) (c .before .before .before .before .before .before .told .given .1)) ∙ under-stop _ _ _ _ (sym (rw (c .before .enum-told2 .given .1) at (c .before .before .before .header-of .ensures)))))
-
-target-of-requires : tie.Need-target-of-requires
-target-of-requires c κs = search needs
-
-enum-known-target : tie.Need-enum-known-target
-enum-known-target c = search needs
-
-enum-told-3 : tie.Need-enum-told-3
-enum-told-3 c = search needs
-
-number-requires-3 : tie.Need-number-requires-3
-number-requires-3 c κs = search needs
-
-returns-3 : tie.Need-returns-3
-returns-3 c = rw (c .number3 .ensures, c .before .enum-told3 .given .1) (with-stop _ _ _ _ _ _ _ (under-on _ _ _ _ (got _ _ (c .before .before .before .before .before .before .before .before .before .before .before .before .geometry-for .ensures) (c .before .before .before .before .before .before .before .before .before .before .told .given .1)) ∙ under-on _ _ _ _ (sym (rw (c .before .before .before .before .before .of .given .1) at (c .before .before .before .before .before .before .before .header-of .ensures))) ∙ under-stop _ _ _ _ (sym (rw (c .before .enum-told3 .given .1) at (c .before .before .before .target-of .ensures)))))
+returns c = rw (← c .before .before .before .before .before .before .geometry .ensures) (none-stored-with _ _ _ _ _ _ _ _ (sym (rw (c .before .before .enum-told .given .1) at (c .before .before .before .before .target-of .ensures))) (rw (c .before .before .enum-told .given .1) at (c .before .number .ensures)) (c .refusal .ensures))
 
 fuse-of-requires : tie.Need-fuse-of-requires
 fuse-of-requires c κs = search needs
@@ -61,33 +37,22 @@ hand-back-requires c κs = search needs
 same-length : tie.Need-same-length
 same-length c = search needs
 
-returns-4 : tie.Need-returns-4
-returns-4 c =
-    with-on _ _ _ _ _ _ _ _ _ _
-    ((rw (c .before .before .before .before .before .before .before .fuse-of .ensures) at (c .before .before .before .before .before .update-state .ensures .0)) ∙ sym (under-on _ _ _ _ (got _ _ (c .before .before .before .before .before .before .before .before .before .before .before .before .before .before .before .before .before .before .before .before .before .geometry-for .ensures) (c .before .before .before .before .before .before .before .before .before .before .before .before .before .before .before .before .before .before .before .told .given .1)) ∙ under-on _ _ _ _ (sym (rw (c .before .before .before .before .before .before .before .before .before .before .before .before .before .before .of .given .1) at (c .before .before .before .before .before .before .before .before .before .before .before .before .before .before .before .before .header-of .ensures))) ∙ under-on _ _ _ _ (sym (rw (c .before .before .before .before .before .before .before .before .before .before .target .given .1) at (c .before .before .before .before .before .before .before .before .before .before .before .before .target-of .ensures)))))
-    (c .hand-back .ensures .0) (c .hand-back .ensures .1 .0) (c .hand-back .ensures .1 .1)
+returns-2 : tie.Need-returns-2
+returns-2 c = rw (← c .before .before .before .before .before .before .before .before .before .before .before .before .before .before .before .geometry .ensures) (given-stored-with _ _ _ _ _ _ _ _ _ _ _ _ _ _ _ (sym (rw (c .before .before .before .before .before .before .before .before .before .before .before .of .given .1) at (c .before .before .before .before .before .before .before .before .before .before .before .before .before .target-of .ensures))) (c .before .before .before .before .before .before .before .fuse-of .ensures) (c .before .before .before .before .before .update-state .ensures .0) (c .hand-back .ensures .0) (c .hand-back .ensures .1 .0) (c .hand-back .ensures .1 .1))
 
 pub stumpchoir-update-state-spec : {M : Type 1} → statement M
 stumpchoir-update-state-spec =
     tie.close
     (tie.spec
-    geometry-for-requires
-    enum-known-told
+    geometry-requires
+    target-of-requires
+    enum-known-of
     enum-told
     number-requires
+    refusal-requires
     returns
-    header-of-requires
-    enum-known-of
-    enum-told-2
-    number-requires-2
-    returns-2
-    target-of-requires
-    enum-known-target
-    enum-told-3
-    number-requires-3
-    returns-3
     fuse-of-requires
     update-state-requires
     hand-back-requires
     same-length
-    returns-4)
+    returns-2)

@@ -1,62 +1,19 @@
-use mathlib.Core.Path.{refl}
-use Rattle.crossing.proofs.Crossings.{question-on, question-stop}
 use borrow.Author.Needs.{needs}
 use Rattle.cface.proofs.info_calls.stumpchoir_info_read.Statement.{statement}
 use Rattle.cface.proofs.info_calls.stumpchoir_info_read.Tie as tie
 
-geometry-of-requires : tie.Need-geometry-of-requires
-geometry-of-requires c κs = search needs
-
-enum-known-told : tie.Need-enum-known-told
-enum-known-told c = search needs
-
-enum-told : tie.Need-enum-told
-enum-told c = search needs
-
-number-requires : tie.Need-number-requires
-number-requires c κs = search needs
-
-returns : tie.Need-returns
-returns c = rw (question-stop _ _ _ (c .before .before .before .geometry-of .ensures) (c .before .enum-told .given .1) (c .number .ensures)) (refl, (refl, refl))
+geometry-requires : tie.Need-geometry-requires
+geometry-requires c κs = search needs
 
 read-requires : tie.Need-read-requires
 read-requires c κs = search needs
 
-enum-known-a : tie.Need-enum-known-a
-enum-known-a c = search needs
+hand-info-requires : tie.Need-hand-info-requires
+hand-info-requires c κs = search needs
 
-put-header-requires : tie.Need-put-header-requires
-put-header-requires c κs = search needs
-
-enum-told-2 : tie.Need-enum-told-2
-enum-told-2 c = search needs
-
-enum-known-a-2 : tie.Need-enum-known-a-2
-enum-known-a-2 c = search needs
-
-returns-2 : tie.Need-returns-2
-returns-2 c = rw (question-on _ _ _ (c .before .before .before .before .before .before .before .before .before .geometry-of .ensures) (c .before .before .before .before .before .before .before .told .given .1), ← c .before .before .before .before .before .read .ensures .0, c .before .before .before .a .given .1) (refl, (refl, c .put-header .ensures))
-
-returns-3 : tie.Need-returns-3
-returns-3 c = rw (question-on _ _ _ (c .before .before .before .before .before .before .geometry-of .ensures) (c .before .before .before .before .told .given .1), ← c .before .before .read .ensures .0, c .enum-told2 .given .1) (refl, (refl, refl))
-
-returns-4 : tie.Need-returns-4
-returns-4 c = rw (question-on _ _ _ (c .before .before .before .before .before .before .before .geometry-of .ensures) (c .before .before .before .before .before .told .given .1), ← c .before .before .before .read .ensures .0, c .before .a2 .given .1) (refl, (refl, refl))
+returns : tie.Need-returns
+returns c = rw (← c .before .before .before .before .geometry .ensures, ← c .before .before .before .read .ensures .0) (c .hand-info .ensures)
 
 pub stumpchoir-info-read-spec : {M : Type 1} → statement M
 stumpchoir-info-read-spec =
-    tie.close
-    (tie.spec
-    geometry-of-requires
-    enum-known-told
-    enum-told
-    number-requires
-    returns
-    read-requires
-    enum-known-a
-    put-header-requires
-    enum-told-2
-    enum-known-a-2
-    returns-2
-    returns-3
-    returns-4)
+    tie.close (tie.spec geometry-requires read-requires hand-info-requires returns)

@@ -1,50 +1,19 @@
-use Rattle.crossing.proofs.Crossings.{question-on, question-stop}
-use mathlib.Core.Path.{refl}
 use borrow.Author.Needs.{needs}
 use Rattle.cface.proofs.medium_calls.stumpchoir_align.Statement.{statement}
 use Rattle.cface.proofs.medium_calls.stumpchoir_align.Tie as tie
 
-geometry-of-requires : tie.Need-geometry-of-requires
-geometry-of-requires c κs = search needs
-
-enum-known-told : tie.Need-enum-known-told
-enum-known-told c = search needs
-
-enum-told : tie.Need-enum-told
-enum-told c = search needs
-
-number-requires : tie.Need-number-requires
-number-requires c κs = search needs
-
-returns : tie.Need-returns
-returns c = rw (question-stop _ _ _ (c .before .before .before .geometry-of .ensures) (c .before .enum-told .given .1) (c .number .ensures)) (refl, refl)
+geometry-requires : tie.Need-geometry-requires
+geometry-requires c κs = search needs
 
 align-requires : tie.Need-align-requires
 align-requires c κs = search needs
 
-enum-known-a : tie.Need-enum-known-a
-enum-known-a c = search needs
+hand-count-requires : tie.Need-hand-count-requires
+hand-count-requires c κs = search needs
 
-enum-known-a-2 : tie.Need-enum-known-a-2
-enum-known-a-2 c = search needs
-
-returns-2 : tie.Need-returns-2
-returns-2 c = rw (question-on _ _ _ (c .before .before .before .before .before .before .before .geometry-of .ensures) (c .before .before .before .before .before .told .given .1), ← c .before .before .before .align .ensures, c .before .a .given .1) (refl, refl)
-
-returns-3 : tie.Need-returns-3
-returns-3 c = rw (question-on _ _ _ (c .before .before .before .before .before .before .before .geometry-of .ensures) (c .before .before .before .before .before .told .given .1), ← c .before .before .before .align .ensures, c .before .a2 .given .1) (refl, refl)
+returns : tie.Need-returns
+returns c = rw (← c .before .before .before .geometry .ensures, ← c .before .before .align .ensures) (c .hand-count .ensures)
 
 pub stumpchoir-align-spec : {M : Type 1} → statement M
 stumpchoir-align-spec =
-    tie.close
-    (tie.spec
-    geometry-of-requires
-    enum-known-told
-    enum-told
-    number-requires
-    returns
-    align-requires
-    enum-known-a
-    enum-known-a-2
-    returns-2
-    returns-3)
+    tie.close (tie.spec geometry-requires align-requires hand-count-requires returns)

@@ -1,0 +1,29 @@
+use Rattle.crossing.specs.Crossing.{tellingBy}
+use borrow.Author.Needs.{needs}
+use Rattle.crossing.proofs.records.hand_flag.Statement.{statement}
+use Rattle.crossing.proofs.records.hand_flag.Tie as tie
+
+enum-told : tie.Need-enum-told
+enum-told c = search needs
+
+enum-told-2 : tie.Need-enum-told-2
+enum-told-2 c = search needs
+
+enum-known-answer : tie.Need-enum-known-answer
+enum-known-answer c = search needs
+
+returns : tie.Need-returns
+unfolding tellingBy
+returns c = rw (c .enum-told .given .1)
+
+returns-2 : tie.Need-returns-2
+unfolding tellingBy
+returns-2 c = rw (c .enum-told2 .given .1)
+
+returns-3 : tie.Need-returns-3
+unfolding tellingBy
+returns-3 c = rw (c .before .answer .given .1)
+
+pub hand-flag-spec : {M : Type 1} → statement M
+hand-flag-spec =
+    tie.close (tie.spec enum-told enum-told-2 enum-known-answer returns returns-2 returns-3)
