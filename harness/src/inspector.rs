@@ -40,7 +40,7 @@ fn objects(g: Geometry, image: &[u8], block: u32) -> String {
     let mut text = String::new();
     loop {
         let next = ask(Op::IteratorNext, g, image, &[], &at);
-        if !next.done() || next.values[0] == 0 {
+        if !next.done() || next.values[0] != 1 {
             return text;
         }
         let [ty, state, size, block, offset] = next.values[1..6] else { unreachable!() };

@@ -153,7 +153,11 @@ fn object(case: &Case, flash: &mut Flash, shown: &mut Shown) -> Answer<()> {
         }
         Op::IteratorNext => {
             let mut listing = Listing { block: case.array[0], offset: case.array[1] };
+            let ended = listing.ended(g);
             shown.found(flash.list_next(&mut listing)?.map(Header::numbers).as_ref().map(|n| &n[..]));
+            if ended {
+                shown.values[0] = 2;
+            }
             shown.array = vec![listing.block, listing.offset];
         }
         _ => unreachable!(),

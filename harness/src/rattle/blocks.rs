@@ -1,25 +1,10 @@
 //! The blocks' functions.
 
-use super::{c, interface, Lent};
+use super::{c, interface::*, Lent};
 use crate::{
     case::Case,
     op::{Op, Shape},
 };
-
-interface! {
-    stumpchoir_block_header_read(image; block: u32, header: *mut u32);
-    stumpchoir_block_header_write(store; block: u32, kind: u32, erase_count: u32);
-    stumpchoir_is_block_data_empty(image; block: u32, empty: *mut u32);
-    stumpchoir_format_block(store; block: u32);
-    stumpchoir_format_storage(store);
-    stumpchoir_scan_block(image; block: u32, record: *mut u32);
-    stumpchoir_set_block_type(store; block: u32, kind: u32);
-    stumpchoir_calculate_freeable_space(image; block: u32, space: *mut u64);
-    stumpchoir_record_free_space(; record: *const u32, space: *mut u32);
-    stumpchoir_record_is_empty(; record: *const u32, empty: *mut u32);
-    stumpchoir_record_add_used_bytes(; record: *mut u32, total_size: u32);
-    stumpchoir_record_update_stats_after_erase(; record: *mut u32);
-}
 
 pub fn call(case: &Case, l: &mut Lent) -> u8 {
     if case.op.signature().array == Shape::Record {
@@ -44,7 +29,7 @@ fn record(case: &Case, l: &mut Lent) -> u8 {
     let array = l.array.as_mut_ptr();
     let out = l.w.as_mut_ptr();
     match case.op {
-        Op::RecordFreeSpace => c!(stumpchoir_record_free_space(case, array, out)),
+        Op::RecordFreeSpace => c!(stumpchoir_record_free_space(case, array, &raw mut l.q)),
         Op::RecordIsEmpty => c!(stumpchoir_record_is_empty(case, array, out)),
         Op::RecordAddUsedBytes => c!(stumpchoir_record_add_used_bytes(case, array, case.args[0])),
         Op::RecordUpdateStatsAfterErase => c!(stumpchoir_record_update_stats_after_erase(case, array)),

@@ -1,14 +1,7 @@
 //! The collector's functions.
 
-use super::{c, interface, Lent};
+use super::{c, interface::*, Lent};
 use crate::{case::Case, op::Op};
-
-interface! {
-    stumpchoir_delete_invalid_objects(store; table: *mut u32, table_len: usize);
-    stumpchoir_erase_invalid_finished_blocks(store; table: *mut u32, table_len: usize);
-    stumpchoir_erase_full_finished_blocks(store; table: *mut u32, table_len: usize);
-    stumpchoir_run(store; table: *mut u32, table_len: usize);
-}
 
 pub fn call(case: &Case, l: &mut Lent) -> u8 {
     let (table, len) = (l.array.as_mut_ptr(), l.array.len());

@@ -1,15 +1,7 @@
 //! The medium's functions.
 
-use super::{c, interface, Lent};
+use super::{c, interface::*, Lent};
 use crate::{case::Case, op::Op};
-
-interface! {
-    stumpchoir_check(image);
-    stumpchoir_align(; n: u32, aligned: *mut u64);
-    stumpchoir_read(image; block: u32, offset: u32, buffer: *mut u8, buffer_len: usize);
-    stumpchoir_write(store; block: u32, offset: u32, src: *const u8, src_len: usize);
-    stumpchoir_erase(store; block: u32);
-}
 
 pub fn call(case: &Case, l: &mut Lent) -> u8 {
     let arg = |i: usize| case.args[i];

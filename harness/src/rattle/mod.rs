@@ -6,6 +6,7 @@
 mod blocks;
 #[cfg(feature = "collector")]
 mod collector;
+pub mod interface;
 #[cfg(feature = "medium")]
 mod medium;
 #[cfg(feature = "objects")]
@@ -130,8 +131,8 @@ impl Lent {
 #[allow(unused_macros)]
 macro_rules! c {
     ($f:ident($case:ident $(, $rest:expr)*)) => {{
-        let g = $case.geometry;
-        unsafe { $f(g.granularity, g.s, g.c, g.size, g.count $(, $rest)*) }
+        let geometry = $case.geometry.numbers();
+        unsafe { $f(geometry.as_ptr() $(, $rest)*) }
     }};
     ($f:ident($case:ident; image $lent:ident $(, $rest:expr)*)) => {{
         let (image, len) = ($lent.image.as_ptr(), $lent.image.len());
@@ -145,24 +146,3 @@ macro_rules! c {
 }
 #[allow(unused_imports)]
 pub(crate) use c;
-
-/// Declares functions of the C interface: every one begins with the geometry and answers a number.
-#[allow(unused_macros)]
-macro_rules! interface {
-    ($($f:ident($($kind:ident)? $(; $($name:ident: $ty:ty),*)?);)*) => {
-        $(interface!(@ $($kind)? $f $($($name: $ty),*)?);)*
-    };
-    (@ image $f:ident $($name:ident: $ty:ty),*) => {
-        interface!(@ $f image: *const u8, image_len: usize $(, $name: $ty)*);
-    };
-    (@ store $f:ident $($name:ident: $ty:ty),*) => {
-        interface!(@ $f image: *mut u8, image_len: usize, fused: bool, units: *mut u32 $(, $name: $ty)*);
-    };
-    (@ $f:ident $($name:ident: $ty:ty),*) => {
-        unsafe extern "C" {
-            fn $f(granularity: u8, s: u8, c: u8, size: u32, count: u32 $(, $name: $ty)*) -> u8;
-        }
-    };
-}
-#[allow(unused_imports)]
-pub(crate) use interface;

@@ -1,49 +1,13 @@
 //! The objects' functions.
 
-use super::{c, interface, Lent};
+use super::{c, interface::*, Lent};
 use crate::{
     case::Case,
     op::{Op, Shape},
 };
 
-interface! {
-    stumpchoir_location_into_bytes(; block: u32, offset: u32, bytes: *mut u8, len: *mut u32);
-    stumpchoir_location_from_bytes(; bytes: *const u8, bytes_len: usize, location: *mut u32);
-    stumpchoir_header_read(image; block: u32, offset: u32, header: *mut u32);
-    stumpchoir_update_state(store; header: *mut u32, state: u8);
-    stumpchoir_set_payload_size(store; header: *mut u32, payload_size: u32);
-    stumpchoir_reader_new(image; block: u32, offset: u32, allow_non_finalized: bool, reader: *mut u32);
-    stumpchoir_reader_len(; reader: *const u32, len: *mut u32);
-    stumpchoir_reader_remaining(; reader: *const u32, remaining: *mut u32);
-    stumpchoir_reader_rewind(; reader: *mut u32);
-    stumpchoir_reader_read(image; reader: *mut u32, buffer: *mut u8, buffer_len: usize, read: *mut u32);
-    stumpchoir_info_read(image; block: u32, offset: u32, found: *mut u32, header: *mut u32);
-    stumpchoir_info_total_size(; header: *const u32, total_size: *mut u64);
-    stumpchoir_info_finalize(store; header: *mut u32);
-    stumpchoir_info_delete(store; header: *mut u32);
-    stumpchoir_info_read_metadata(image; header: *const u32, metadata: *mut u32);
-    stumpchoir_location_read_metadata(image; block: u32, offset: u32, metadata: *mut u32);
-    stumpchoir_metadata_next_object_location(image; metadata: *mut u32, found: *mut u32, location: *mut u32);
-    stumpchoir_metadata_reset(; metadata: *mut u32);
-    stumpchoir_iterator_new(; block: u32, iterator: *mut u32);
-    stumpchoir_iterator_next(image; iterator: *mut u32, found: *mut u32, header: *mut u32);
-}
-
-#[cfg(feature = "writer")]
-interface! {
-    stumpchoir_writer_allocate(store; block: u32, offset: u32, kind: u8, writer: *mut u32);
-    stumpchoir_writer_space(; writer: *const u32, space: *mut u32);
-    stumpchoir_writer_payload_size(; writer: *const u32, payload_size: *mut u32);
-    stumpchoir_writer_total_size(; writer: *const u32, total_size: *mut u32);
-    stumpchoir_writer_write(store; writer: *mut u32, src: *const u8, src_len: usize);
-    stumpchoir_writer_finalize(store; writer: *mut u32);
-    stumpchoir_writer_delete(store; writer: *mut u32);
-    stumpchoir_write_to(store; block: u32, offset: u32, kind: u8, src: *const u8, src_len: usize, total_size: *mut u32);
-    stumpchoir_copy_object(store; header: *const u32, block: u32, offset: u32, copy: *mut u32);
-    stumpchoir_move_object(store; header: *const u32, block: u32, offset: u32, copy: *mut u32);
-}
-
 /// Whether a function is one of the writer's, which the archive has where the feature `writer` is on.
+#[cfg(not(feature = "writer"))]
 pub fn writes(op: Op) -> bool {
     matches!(op.signature().array, Shape::Writer)
         || matches!(op, Op::WriterAllocate | Op::WriteTo | Op::CopyObject | Op::MoveObject)
@@ -65,13 +29,13 @@ fn by_place(case: &Case, l: &mut Lent) -> u8 {
     let (bytes, len) = (l.bytes.as_ptr(), l.bytes.len());
     let out = l.w.as_mut_ptr();
     match case.op {
-        Op::LocationIntoBytes => c!(stumpchoir_location_into_bytes(case, arg(0), arg(1), l.b.as_mut_ptr(), out)),
+        Op::LocationIntoBytes => c!(stumpchoir_location_into_bytes(case, arg(0), arg(1), l.b.as_mut_ptr(), &raw mut l.q)),
         Op::LocationFromBytes => c!(stumpchoir_location_from_bytes(case, bytes, len, out)),
         Op::HeaderRead => c!(stumpchoir_header_read(case; image l, arg(0), arg(1), out)),
         #[cfg(feature = "writer")]
         Op::WriterAllocate => c!(stumpchoir_writer_allocate(case; store l, arg(0), arg(1), arg(2) as u8, out)),
         #[cfg(feature = "writer")]
-        Op::WriteTo => c!(stumpchoir_write_to(case; store l, arg(0), arg(1), arg(2) as u8, bytes, len, out)),
+        Op::WriteTo => c!(stumpchoir_write_to(case; store l, arg(0), arg(1), arg(2) as u8, bytes, len, &raw mut l.q)),
         Op::ReaderNew => c!(stumpchoir_reader_new(case; image l, arg(0), arg(1), arg(2) != 0, out)),
         Op::InfoRead => c!(stumpchoir_info_read(case; image l, arg(0), arg(1), out, out.wrapping_add(1))),
         Op::LocationReadMetadata => c!(stumpchoir_location_read_metadata(case; image l, arg(0), arg(1), out)),
@@ -113,12 +77,11 @@ fn by_header(case: &Case, l: &mut Lent) -> u8 {
 #[cfg(feature = "writer")]
 fn writer(case: &Case, l: &mut Lent) -> u8 {
     let array = l.array.as_mut_ptr();
-    let out = l.w.as_mut_ptr();
     let (bytes, len) = (l.bytes.as_ptr(), l.bytes.len());
     match case.op {
-        Op::WriterSpace => c!(stumpchoir_writer_space(case, array, out)),
-        Op::WriterPayloadSize => c!(stumpchoir_writer_payload_size(case, array, out)),
-        Op::WriterTotalSize => c!(stumpchoir_writer_total_size(case, array, out)),
+        Op::WriterSpace => c!(stumpchoir_writer_space(case, array, &raw mut l.q)),
+        Op::WriterPayloadSize => c!(stumpchoir_writer_payload_size(case, array, &raw mut l.q)),
+        Op::WriterTotalSize => c!(stumpchoir_writer_total_size(case, array, &raw mut l.q)),
         Op::WriterWrite => c!(stumpchoir_writer_write(case; store l, array, bytes, len)),
         Op::WriterFinalize => c!(stumpchoir_writer_finalize(case; store l, array)),
         Op::WriterDelete => c!(stumpchoir_writer_delete(case; store l, array)),
@@ -128,13 +91,12 @@ fn writer(case: &Case, l: &mut Lent) -> u8 {
 
 fn reader(case: &Case, l: &mut Lent) -> u8 {
     let array = l.array.as_mut_ptr();
-    let out = l.w.as_mut_ptr();
     let (bytes, len) = (l.bytes.as_mut_ptr(), l.bytes.len());
     match case.op {
-        Op::ReaderLen => c!(stumpchoir_reader_len(case, array, out)),
-        Op::ReaderRemaining => c!(stumpchoir_reader_remaining(case, array, out)),
+        Op::ReaderLen => c!(stumpchoir_reader_len(case, array, &raw mut l.q)),
+        Op::ReaderRemaining => c!(stumpchoir_reader_remaining(case, array, &raw mut l.q)),
         Op::ReaderRewind => c!(stumpchoir_reader_rewind(case, array)),
-        Op::ReaderRead => c!(stumpchoir_reader_read(case; image l, array, bytes, len, out)),
+        Op::ReaderRead => c!(stumpchoir_reader_read(case; image l, array, bytes, len, &raw mut l.q)),
         _ => unreachable!(),
     }
 }

@@ -23,6 +23,10 @@ pub mod reach {
         [ty, header.state() as u32, size, header.location.block as u32, header.location.offset as u32]
     }
 
+    pub fn header_len<M: StorageMedium>() -> usize {
+        ObjectHeader::byte_count::<M>()
+    }
+
     pub fn place(block: u32, offset: u32) -> ObjectLocation {
         ObjectLocation { block: block as usize, offset: offset as usize }
     }

@@ -1,4 +1,4 @@
-//! Geometry: five numbers that are handed to every call, and the paper's rules for them.
+//! Geometry: the five numbers that are handed to every call, and the paper's rules for them.
 
 #[derive(Clone, Copy, PartialEq, Eq, Debug, Hash)]
 pub struct Geometry {
@@ -26,6 +26,11 @@ impl Geometry {
             && self.size as u64 * self.count as u64 <= 16_777_216
             && self.size as u64 <= 1 << (8 * self.s)
             && self.count as u64 <= 1 << (8 * self.c)
+    }
+
+    /// As the C interface takes it.
+    pub fn numbers(self) -> [u32; 6] {
+        [self.granularity as u32, self.s as u32, self.c as u32, 0, self.size, self.count]
     }
 
     /// The length that an image must have.
