@@ -1,11 +1,10 @@
 // The collector for C. The table is four numbers a block: kind, erase count, used bytes, allow mark.
 // Made by tools/cface.
-use collector::passes;
 use crossing::call;
 ghost use mathlib.Core.Path.{_≡_};
+ghost use Rattle.medium.specs.Beside.{both};
 ghost use Rattle.medium.specs.Operation.{run};
 ghost use Rattle.collector.specs.Passes.{deleteInvalidObjects, eraseInvalidFinishedBlocks, eraseFullFinishedBlocks, collect};
-ghost use Rattle.collector.specs.Table.{both};
 ghost use Rattle.crossing.specs.Crossing.{crossed, crossing, fuseOf, geometryIn};
 
 // The first pass: deletes objects that a power cut left unfinished.
@@ -21,7 +20,7 @@ pub extern "C" fn stumpchoir_delete_invalid_objects(
 {
     let g = call::geometry(geometry);
     let f = call::fuse_of(fused, units);
-    let a = passes::delete_invalid_objects(g, image, table, f);
+    let a = collector::delete_invalid_objects(g, image, table, f);
     call::hand_back(a, units)
 }
 
@@ -38,7 +37,7 @@ pub extern "C" fn stumpchoir_erase_invalid_finished_blocks(
 {
     let g = call::geometry(geometry);
     let f = call::fuse_of(fused, units);
-    let a = passes::erase_invalid_finished_blocks(g, image, table, f);
+    let a = collector::erase_invalid_finished_blocks(g, image, table, f);
     call::hand_back(a, units)
 }
 
@@ -55,7 +54,7 @@ pub extern "C" fn stumpchoir_erase_full_finished_blocks(
 {
     let g = call::geometry(geometry);
     let f = call::fuse_of(fused, units);
-    let a = passes::erase_full_finished_blocks(g, image, table, f);
+    let a = collector::erase_full_finished_blocks(g, image, table, f);
     call::hand_back(a, units)
 }
 
@@ -72,6 +71,6 @@ pub extern "C" fn stumpchoir_run(
 {
     let g = call::geometry(geometry);
     let f = call::fuse_of(fused, units);
-    let a = passes::run(g, image, table, f);
+    let a = collector::run(g, image, table, f);
     call::hand_back(a, units)
 }

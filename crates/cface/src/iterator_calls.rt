@@ -7,7 +7,7 @@ ghost use mathlib.Core.Path.{_≡_};
 ghost use Rattle.medium.specs.Operation.{done};
 ghost use Rattle.objects.specs.Listing.{startOf, nextOf};
 ghost use Rattle.crossing.specs.Crossing.{told, telling, fitting, geometryIn, two, tellingBy};
-ghost use Rattle.crossing.specs.Values.{iteratorNumbers, nextOut, nextAnswer, iteratorOf};
+ghost use Rattle.crossing.specs.Values.{iteratorNumbers, nextOut, iteratorOf};
 
 // An iterator right after the header of a block.
 #[no_mangle]
@@ -32,7 +32,7 @@ pub extern "C" fn stumpchoir_iterator_next(
     found: &mut u32,
     header: &mut [u32; 5],
 ) -> u8
-    ensures { λ r. ⌜ told r (two (now (iterator .exit)) (two (now (found .exit)) (now (header .exit)))) ≡ tellingBy nextOut (two (now (iterator .entry)) (two (now (found .entry)) (now (header .entry)))) (nextAnswer (nextOf (geometryIn (now (geometry .entry))) (iteratorOf (now (iterator .entry))) (now (image .entry)))) ⌝ }
+    ensures { λ r. ⌜ told r (two (now (iterator .exit)) (two (now (found .exit)) (now (header .exit)))) ≡ tellingBy nextOut (two (now (iterator .entry)) (two (now (found .entry)) (now (header .entry)))) (nextOf (geometryIn (now (geometry .entry))) (iteratorOf (now (iterator .entry))) (now (image .entry))) ⌝ }
 {
     let g = call::geometry(geometry);
     let i = values::iterator_of(iterator);

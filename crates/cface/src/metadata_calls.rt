@@ -12,7 +12,7 @@ ghost use lib.ListN.{length};
 ghost use Rattle.objects.specs.Metadata.{readMetadata, metadataAt, nextLocation};
 ghost use Rattle.crossing.specs.Crossing.{told, telling, askedIn, geometryIn, two, tellingBy, fitting};
 ghost use Rattle.crossing.specs.Values.{metadataNumbers, headerOf, located, metadataOf};
-ghost use Rattle.cface.specs.Objects.{nextLocationOut, nextLocationAnswer, resetIn};
+ghost use Rattle.cface.specs.Objects.{nextLocationOut, resetIn};
 
 // Path hash and name location of an object that is known by its header.
 #[no_mangle]
@@ -62,7 +62,7 @@ pub extern "C" fn stumpchoir_metadata_next_object_location(
     found: &mut u32,
     location: &mut [u32; 2],
 ) -> u8
-    ensures { λ r. ⌜ told r (two (now (metadata .exit)) (two (now (found .exit)) (now (location .exit)))) ≡ tellingBy nextLocationOut (two (now (metadata .entry)) (two (now (found .entry)) (now (location .entry)))) (askedIn (geometryIn (now (geometry .entry))) (length (now (image .entry))) (metadataOf (now (metadata .entry))) (λ g m. nextLocationAnswer (nextLocation g m (now (image .entry))))) ⌝ }
+    ensures { λ r. ⌜ told r (two (now (metadata .exit)) (two (now (found .exit)) (now (location .exit)))) ≡ tellingBy nextLocationOut (two (now (metadata .entry)) (two (now (found .entry)) (now (location .entry)))) (askedIn (geometryIn (now (geometry .entry))) (length (now (image .entry))) (metadataOf (now (metadata .entry))) (λ g m. nextLocation g m (now (image .entry)))) ⌝ }
 {
     let g = call::geometry(geometry);
     let of = values::metadata_of(metadata);

@@ -14,6 +14,7 @@ ghost use mathlib.Core.Path.{_≡_};
 ghost use Rattle.medium.specs.Operation.{run};
 ghost use Rattle.writer.specs.Moving.{copyObject, moveObject};
 ghost use Rattle.writer.specs.Writer.{writeTo};
+ghost use Rattle.collector.specs.Table.{kind};
 ghost use Rattle.crossing.specs.Crossing.{crossedWith, crossingWith, plain, fuseOf, given, geometryIn};
 ghost use Rattle.crossing.specs.Kinds.{objectTypeOf};
 ghost use Rattle.crossing.specs.Values.{located, headerNumbers, headerOf};

@@ -4,9 +4,9 @@ use blocks::record::BlockInfoRead;
 use crossing::call;
 use crossing::records;
 ghost use mathlib.Core.Path.{_≡_};
-ghost use Rattle.blocks.specs.Record.{freeSpace, recordEmpty, addUsedBytes, updateStatsAfterErase};
+ghost use Rattle.blocks.specs.Record.{freeSpace, recordEmpty, recordNumbers, addUsedBytes, updateStatsAfterErase};
 ghost use Rattle.crossing.specs.Crossing.{told, telling, plain, asked, geometryIn};
-ghost use Rattle.crossing.specs.Records.{recordOf, flagNumber, recordNumbers};
+ghost use Rattle.crossing.specs.Records.{recordOf, flagNumber};
 
 // What is left of a block; 9 where the used bytes pass the block size.
 #[no_mangle]

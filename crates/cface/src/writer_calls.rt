@@ -10,6 +10,7 @@ use writer::writer::ObjectWriter;
 ghost use mathlib.Core.Path.{_≡_};
 ghost use Rattle.medium.specs.Operation.{run};
 ghost use Rattle.writer.specs.Writer.{allocate, spaceOf, payloadSize, totalSize, append, finalize, delete};
+ghost use Rattle.collector.specs.Table.{kind};
 ghost use Rattle.crossing.specs.Crossing.{crossedWith, crossingWith, fuseOf, given, geometryIn, told, telling, plain, asked};
 ghost use Rattle.crossing.specs.Kinds.{objectTypeOf};
 ghost use Rattle.crossing.specs.Values.{located};

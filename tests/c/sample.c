@@ -1,0 +1,81 @@
+/* A small store: formatted, written, listed, moved. Compiled as C99 and as C++ by tools/c-sample. */
+#include "stumpchoir.h"
+
+#include <stdio.h>
+#include <stdlib.h>
+#include <string.h>
+
+static uint8_t image[4 * 256];
+static const struct stumpchoir_geometry geometry = {STUMPCHOIR_BIT, 1, 1, 0, 256, 4};
+
+static void expect(const char *what, uint32_t got, uint32_t wanted)
+{
+    if (got != wanted) {
+        printf("%s: %lu, not %lu\n", what, (unsigned long)got, (unsigned long)wanted);
+        exit(1);
+    }
+}
+
+static void list(uint32_t block)
+{
+    struct stumpchoir_iterator at;
+    struct stumpchoir_header header;
+    uint32_t found;
+    expect("iterator_new", stumpchoir_iterator_new(&geometry, block, &at), STUMPCHOIR_DONE);
+    for (;;) {
+        expect("iterator_next", stumpchoir_iterator_next(&geometry, image, sizeof image, &at, &found, &header), STUMPCHOIR_DONE);
+        if (found != STUMPCHOIR_FOUND) {
+            printf("block %lu: %s at %lu\n", (unsigned long)block, found == STUMPCHOIR_FOUND_END ? "end" : "free", (unsigned long)at.offset);
+            return;
+        }
+        printf("block %lu: type %lX, state %lu, %lu bytes at %lu\n", (unsigned long)header.block, (unsigned long)header.type,
+               (unsigned long)header.state, (unsigned long)header.size, (unsigned long)header.offset);
+    }
+}
+
+int main(void)
+{
+    const uint8_t payload[3] = {0x41, 0x42, 0x43};
+    struct stumpchoir_header header, copy;
+    struct stumpchoir_record table[4];
+    struct stumpchoir_geometry bad = geometry;
+    uint64_t total = 0;
+    uint32_t units = 6, i;
+
+    /* a new store: erased, formatted, and blocks 0 and 2 for data */
+    memset(image, 0xFF, sizeof image);
+    expect("format_storage", stumpchoir_format_storage(&geometry, image, sizeof image, false, NULL), STUMPCHOIR_DONE);
+    for (i = 0; i < 4; i += 2)
+        expect("set_block_type", stumpchoir_set_block_type(&geometry, image, sizeof image, false, NULL, i, STUMPCHOIR_KIND_DATA), STUMPCHOIR_DONE);
+
+    /* the first object goes right behind the block's header */
+    expect("write_to", stumpchoir_write_to(&geometry, image, sizeof image, false, NULL, 0, 8, STUMPCHOIR_TYPE_FILE_DATA, payload, 3, &total), STUMPCHOIR_DONE);
+    expect("total size", (uint32_t)total, 6);
+    list(0);
+
+    /* moved with power for six units of seven: both are there; then the old one is deleted */
+    expect("header_read", stumpchoir_header_read(&geometry, image, sizeof image, 0, 8, &header), STUMPCHOIR_DONE);
+    expect("move_object", stumpchoir_move_object(&geometry, image, sizeof image, true, &units, &header, 2, 8, &copy), STUMPCHOIR_POWER_LOST);
+    expect("units", units, 0);
+    list(0);
+    list(2);
+    expect("info_delete", stumpchoir_info_delete(&geometry, image, sizeof image, false, NULL, &header), STUMPCHOIR_DONE);
+
+    /* a collection, with the table that the blocks say */
+    for (i = 0; i < 4; i++)
+        expect("scan_block", stumpchoir_scan_block(&geometry, image, sizeof image, i, &table[i]), STUMPCHOIR_DONE);
+    expect("run", stumpchoir_run(&geometry, image, sizeof image, false, NULL, (uint32_t *)table, 16), STUMPCHOIR_DONE);
+    list(0);
+    list(2);
+
+    /* an empty buffer may be null; numbers that no geometry has are 6, also behind the 32 bits of a byte */
+    expect("write of nothing", stumpchoir_write(&geometry, image, sizeof image, false, NULL, 1, 8, NULL, 0), STUMPCHOIR_DONE);
+    expect("read of nothing", stumpchoir_read(&geometry, image, sizeof image, 1, 8, NULL, 0), STUMPCHOIR_DONE);
+    bad.granularity = 256;
+    expect("granularity 256", stumpchoir_check(&bad, image, sizeof image), STUMPCHOIR_BAD_GEOMETRY);
+    bad = geometry;
+    bad.reserved = 1;
+    expect("reserved 1", stumpchoir_check(&bad, image, sizeof image), STUMPCHOIR_BAD_GEOMETRY);
+    expect("a short image", stumpchoir_check(&geometry, image, sizeof image - 1), STUMPCHOIR_BAD_ROOM);
+    return 0;
+}
