@@ -58,8 +58,8 @@ use Rattle.blocks.specs.declared.format.Emptiness.the-variants as emptiness
 use Rattle.blocks.specs.declared.format.Plan.{Plan}
 use Rattle.blocks.specs.declared.format.Plan.the-variants as plan
 use Rattle.blocks.specs.Format.{emptinessAnswer, Planned, keep, label, renew, planAnswer}
-use Rattle.crossing.specs.declared.call.GeometryRead.{GeometryRead}
-use Rattle.crossing.specs.declared.call.GeometryRead.the-variants as geometry
+use Rattle.medium.specs.declared.geometry.GeometryRead.{GeometryRead}
+use Rattle.medium.specs.declared.geometry.GeometryRead.the-variants as geometry
 use Rattle.crossing.specs.declared.values.TargetRead.{TargetRead}
 use Rattle.crossing.specs.declared.values.TargetRead.the-variants as target
 use Rattle.crossing.specs.declared.records.BlockTypeRead.{BlockTypeRead}
@@ -151,10 +151,10 @@ block-info-one = one Rattle.blocks.specs.Record.infoAnswer (back block-info.Got
     go (block-info.Got v) = refl
     go (block-info.Refused n) = refl
 
-pub geometry-one : {r r′ : GeometryRead} → Rattle.crossing.specs.Crossing.geometryAnswer r ≡ Rattle.crossing.specs.Crossing.geometryAnswer r′ → r ≡ r′
-geometry-one = one Rattle.crossing.specs.Crossing.geometryAnswer (back geometry.Got geometry.Refused) (λ r. go r)
+pub geometry-one : {r r′ : GeometryRead} → Rattle.medium.specs.Geometry.geometryAnswer r ≡ Rattle.medium.specs.Geometry.geometryAnswer r′ → r ≡ r′
+geometry-one = one Rattle.medium.specs.Geometry.geometryAnswer (back geometry.Got geometry.Refused) (λ r. go r)
   where
-    go : (r : GeometryRead) → back geometry.Got geometry.Refused (Rattle.crossing.specs.Crossing.geometryAnswer r) ≡ r
+    go : (r : GeometryRead) → back geometry.Got geometry.Refused (Rattle.medium.specs.Geometry.geometryAnswer r) ≡ r
     go (geometry.Got v) = refl
     go (geometry.Refused n) = refl
 

@@ -8,6 +8,6 @@ pub mod Collector
 pub mod Powercut
 pub mod Crossing
 pub mod Cface
-pub mod Record
+pub mod GeometryRecord
 pub mod Lines
 pub mod Cuts
