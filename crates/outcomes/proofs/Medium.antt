@@ -2,7 +2,7 @@
 use mathlib.Core.Path.{_≡_, sym, _∙_}
 use denote.Ref.{now}
 use Rattle.outcomes.proofs.One.{One}
-use Rattle.outcomes.proofs.Answers.{counted-one, geometry-one, heard-one, stored-one}
+use Rattle.outcomes.proofs.Answers.{counted-one, geometry-one, granularity-one, heard-one, stored-one}
 use Rattle.medium.proofs.fuse.Stored.number.Reads as fuse-Stored-number
 use Rattle.medium.proofs.fuse.Answered.number.Reads as fuse-Answered-number
 use Rattle.medium.proofs.geometry.GeometryRead.number.Reads as geometry-GeometryRead-number
@@ -25,6 +25,8 @@ use Rattle.medium.proofs.granularity.Granularity.object_header.Reads as granula
 use Rattle.medium.proofs.granularity.Granularity.block_header.Reads as granularity-Granularity-block-header
 use Rattle.medium.proofs.granularity.Granularity.type_at.Reads as granularity-Granularity-type-at
 use Rattle.medium.proofs.granularity.Granularity.layout_bit.Reads as granularity-Granularity-layout-bit
+use Rattle.medium.proofs.reach.Reads as reach
+use Rattle.medium.proofs.lend.Reads as lend
 use Rattle.medium.proofs.read.Reads as read
 use Rattle.medium.proofs.write.Reads as write
 use Rattle.medium.proofs.erase.Reads as erase
@@ -60,7 +62,7 @@ pub granularity-GranularityRead-number-one : One granularity-GranularityRead-num
 granularity-GranularityRead-number-one _ _ r r′ e e′ p q = p ∙ sym q
 
 pub granularity-Granularity-of-byte-one : One granularity-Granularity-of-byte.Post (λ _ r e r′ e′. r ≡ r′)
-granularity-Granularity-of-byte-one _ _ r r′ e e′ p q = p ∙ sym q
+granularity-Granularity-of-byte-one _ _ r r′ e e′ p q = granularity-one (p ∙ sym q)
 
 pub granularity-Granularity-byte-one : One granularity-Granularity-byte.Post (λ _ r e r′ e′. r ≡ r′)
 granularity-Granularity-byte-one _ _ r r′ e e′ p q = p ∙ sym q
@@ -94,6 +96,12 @@ granularity-Granularity-type-at-one _ _ r r′ e e′ p q = p ∙ sym q
 
 pub granularity-Granularity-layout-bit-one : One granularity-Granularity-layout-bit.Post (λ _ r e r′ e′. r ≡ r′)
 granularity-Granularity-layout-bit-one _ _ r r′ e e′ p q = p ∙ sym q
+
+pub reach-one : One reach.Post (λ _ r e r′ e′. r ≡ r′)
+reach-one _ _ r r′ e e′ p q = p ∙ sym q
+
+pub lend-one : One lend.Post (λ _ r e r′ e′. now r ≡ now r′)
+lend-one _ _ r r′ e e′ p q = p ∙ sym q
 
 pub read-one : One read.Post (λ _ r e r′ e′. (r ≡ r′) × (now (e .1 .1 .1 .1 .0) ≡ now (e′ .1 .1 .1 .1 .0)))
 read-one _ _ r r′ e e′ p q = heard-one r r′ _ _ _ _ (p .0) (q .0) (p .1) (q .1)
