@@ -41,7 +41,7 @@ use Rattle.medium.proofs.Programs.{Programs, store-programs, cut-twice}
 use Rattle.medium.proofs.Traced.{ran, state-cut, power-cut, same-cut}
 use Rattle.shown.proofs.Reading.{stateSeen, Stands, state-read}
 use Rattle.powercut.proofs.Crash.{original-before, copy-before, original-between, copy-between}
-use Rattle.powercut.proofs.Ran.{Ready, Able, able, able-on, source-of, move-ran, delete-ran}
+use Rattle.powercut.proofs.Ran.{Ready, Able, able, source-of, move-ran, delete-ran}
 use Rattle.powercut.proofs.Survive.{N, us, all-copied, as-copied, cut-before, cut-between, units-are, copy-is, original-whole, move-traced, ready}
 
 -- ---- an unfinished object of the same type can be allocated over; a finished one cannot
@@ -115,8 +115,16 @@ module _ (g : Geometry) (h : ObjectHeader) (to : ObjectLocation) (t : ObjectType
       on : (st : CompositeObjectState) → stateSeen gr q (apply (take k (before gr (g .s) t pay q)) img) ≡ done st → allocatableOf t st ≡ done tt → Able g h to t pay (apply (take k (before gr (g .s) t pay q)) img)
       on st seen al =
           let o : Stands gr (g .s) p (Allocated t Valid) (h .size) pay (apply (take k (before gr (g .s) t pay q)) img) = original-before gr (g .s) t p q (h .size) pay img (r .given) k in
-          able-on g h to t pay img (apply (take k (before gr (g .s) t pay q)) img) r (length-apply (take k (before gr (g .s) t pay q)) img)
-          (original-whole g h to t pay img r (take k (before gr (g .s) t pay q)) o .header) (o .bytes-are) st seen al
+          record {
+            first = img;
+            ready = r;
+            long = length-apply (take k (before gr (g .s) t pay q)) img;
+            just-read = original-whole g h to t pay img r (take k (before gr (g .s) t pay q)) o .header;
+            bytes-are = o .bytes-are;
+            there = st;
+            state-there = seen;
+            allocatable = al;
+          }
 
       go : (stateSeen gr q (apply (take k (before gr (g .s) t pay q)) img) ≡ done Free) ⊎ (stateSeen gr q (apply (take k (before gr (g .s) t pay q)) img) ≡ done (Allocated t Untrusted))
           → Able g h to t pay (apply (take k (before gr (g .s) t pay q)) img)

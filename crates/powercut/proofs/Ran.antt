@@ -78,55 +78,31 @@ pub record Ready (g : Geometry) (h : ObjectHeader) (to : ObjectLocation) (t : Ob
   pub in-block-to : to .offset + span (g .granularity) (g .s) (length pay) ≤ g .size
   pub given : Given (g .granularity) (g .s) t (address g (h .location .block) (h .location .offset)) (address g (to .block) (to .offset)) (h .size) pay img
 
--- what the steps of a move look at: the original's header and payload, the ranges, and a state at the destination that can be allocated over
+-- an image that has the original's header and payload as a ready one has them, and a state at the destination that can be allocated over
 pub record Able (g : Geometry) (h : ObjectHeader) (to : ObjectLocation) (t : ObjectType) (pay img : List ℕ) : Type 0 where
-  pub fine : checkOf g (length img) ≡ 0
+  pub first : List ℕ
+  pub ready : Ready g h to t pay first
+  pub long : length img ≡ length first
   pub just-read : headerAt g (h .location) img ≡ done h
-  pub finished : h .state ≡ Allocated t Valid
-  pub payload : payloadOf (g .s) h ≡ length pay
-  pub block : h .location .block < g .count
-  pub aligned : h .location .offset % widthOf (g .granularity) ≡ 0
-  pub in-block : h .location .offset + span (g .granularity) (g .s) (length pay) ≤ g .size
-  pub block-to : to .block < g .count
-  pub aligned-to : to .offset % widthOf (g .granularity) ≡ 0
-  pub in-block-to : to .offset + span (g .granularity) (g .s) (length pay) ≤ g .size
-  pub width-3 : g .s ≤ 3
   pub bytes-are : part (address g (h .location .block) (h .location .offset) + header (g .granularity) (g .s)) (length pay) img ≡ pay
-  pub apart : (address g (h .location .block) (h .location .offset) + span (g .granularity) (g .s) (length pay) ≤ address g (to .block) (to .offset))
-      ⊎ (address g (to .block) (to .offset) + span (g .granularity) (g .s) (length pay) ≤ address g (h .location .block) (h .location .offset))
   pub there : CompositeObjectState
   pub state-there : stateSeen (g .granularity) (address g (to .block) (to .offset)) img ≡ done there
   pub allocatable : allocatableOf t there ≡ done tt
 
--- an image with the original's header and payload, and a state at the destination that can be allocated over
-pub able-on : (g : Geometry) (h : ObjectHeader) (to : ObjectLocation) (t : ObjectType) (pay img m : List ℕ) → Ready g h to t pay img → length m ≡ length img
-    → headerAt g (h .location) m ≡ done h → part (address g (h .location .block) (h .location .offset) + header (g .granularity) (g .s)) (length pay) m ≡ pay
-    → (st : CompositeObjectState) → stateSeen (g .granularity) (address g (to .block) (to .offset)) m ≡ done st → allocatableOf t st ≡ done tt → Able g h to t pay m
-able-on g h to t pay img m v len read bytes st seen al =
-    record {
-      fine = ap (checkOf g) len ∙ v .fine;
-      just-read = read;
-      finished = v .finished;
-      payload = v .payload;
-      block = v .block;
-      aligned = v .aligned;
-      in-block = v .in-block;
-      block-to = v .block-to;
-      aligned-to = v .aligned-to;
-      in-block-to = v .in-block-to;
-      width-3 = v .given .width-3;
-      bytes-are = bytes;
-      apart = v .given .apart;
-      there = st;
-      state-there = seen;
-      allocatable = al;
-    }
-
+-- a ready one is such an image
 pub able : (g : Geometry) (h : ObjectHeader) (to : ObjectLocation) (t : ObjectType) (pay img : List ℕ) → Ready g h to t pay img → Able g h to t pay img
 unfolding allocatableOf
 able g h to t pay img v =
-    able-on g h to t pay img img v refl (v .just-read) (v .given .original .bytes-are) Free
-    (copy-free (g .granularity) (g .s) t (address g (h .location .block) (h .location .offset)) (address g (to .block) (to .offset)) (h .size) pay img (v .given)) refl
+    record {
+      first = img;
+      ready = v;
+      long = refl;
+      just-read = v .just-read;
+      bytes-are = v .given .original .bytes-are;
+      there = Free;
+      state-there = copy-free (g .granularity) (g .s) t (address g (h .location .block) (h .location .offset)) (address g (to .block) (to .offset)) (h .size) pay img (v .given);
+      allocatable = refl;
+    }
 
 module _ (g : Geometry) (h : ObjectHeader) (to : ObjectLocation) (t : ObjectType) (pay img : List ℕ) (v : Able g h to t pay img) where
   abbrev gr : Granularity
@@ -153,11 +129,14 @@ module _ (g : Geometry) (h : ObjectHeader) (to : ObjectLocation) (t : ObjectType
   abbrev sp : ℕ
   sp = span (g .granularity) (g .s) (length pay)
 
+  fine-now : checkOf g (length img) ≡ 0
+  fine-now = ap (checkOf g) (v .long) ∙ v .ready .fine
+
   fine-is : Fine g (length img)
-  fine-is = fine-of-check g (length img) (checkOf g (length img)) refl (v .fine)
+  fine-is = fine-of-check g (length img) (checkOf g (length img)) refl (fine-now)
 
   l : Laid (g .granularity) (g .s) (length pay)
-  l = laid (g .granularity) (g .s) (length pay) (v .width-3)
+  l = laid (g .granularity) (g .s) (length pay) (v .ready .given .width-3)
 
   small : g .size ≤ 65536
   small = fine-is .sound .small
@@ -166,22 +145,22 @@ module _ (g : Geometry) (h : ObjectHeader) (to : ObjectLocation) (t : ObjectType
   narrow = width-is (g .granularity) .1
 
   still : (m : List ℕ) → length m ≡ length img → checkOf g (length m) ≡ 0
-  still m e = ap (checkOf g) e ∙ v .fine
+  still m e = ap (checkOf g) e ∙ fine-now
 
   in-image : p + sp ≤ length img
-  in-image = within (h .location .block) (h .location .offset) sp (g .size) (g .count) (length img) (v .block) (v .in-block) (fine-is .whole)
+  in-image = within (h .location .block) (h .location .offset) sp (g .size) (g .count) (length img) (v .ready .block) (v .ready .in-block) (fine-is .whole)
 
   -- a store into the destination's block, or the original's
   put : (m : List ℕ) (x : ℕ) (bs : List ℕ) → length m ≡ length img → x % w ≡ 0 → x + alignOf w (length bs) ≤ sp → write g (to .block) (to .offset + x) bs m ≡ ran (unitsOf w (q + x) bs) tt
   put m x bs e a r =
       let ad : address g (to .block) (to .offset + x) ≡ q + x = omega arith in
-      write-ran g (to .block) (to .offset + x) bs m (still m e) (v .block-to) (even-add (g .granularity) (to .offset) x (v .aligned-to) a) (omega (arith, v .in-block-to))
+      write-ran g (to .block) (to .offset + x) bs m (still m e) (v .ready .block-to) (even-add (g .granularity) (to .offset) x (v .ready .aligned-to) a) (omega (arith, v .ready .in-block-to))
       ∙ ap (λ (i : ℕ). ran (unitsOf w i bs) tt) ad
 
   put-original : (m : List ℕ) (x : ℕ) (bs : List ℕ) → length m ≡ length img → x % w ≡ 0 → x + alignOf w (length bs) ≤ sp → write g b (off + x) bs m ≡ ran (unitsOf w (p + x) bs) tt
   put-original m x bs e a r =
       let ad : address g (h .location .block) (h .location .offset + x) ≡ p + x = omega arith in
-      write-ran g (h .location .block) (h .location .offset + x) bs m (still m e) (v .block) (even-add (g .granularity) (h .location .offset) x (v .aligned) a) (omega (arith, v .in-block))
+      write-ran g (h .location .block) (h .location .offset + x) bs m (still m e) (v .ready .block) (even-add (g .granularity) (h .location .offset) x (v .ready .aligned) a) (omega (arith, v .ready .in-block))
       ∙ ap (λ (i : ℕ). ran (unitsOf w i bs) tt) ad
 
   -- ---- the writer of the copy
@@ -207,9 +186,9 @@ module _ (g : Geometry) (h : ObjectHeader) (to : ObjectLocation) (t : ObjectType
   append-test : (cur : ℕ) (tl c m : List ℕ) → length m ≡ length img → length tl < w → cur + length tl + length c ≤ length pay → appendable (writer cur tl) g (length m) (length c) ≡ 0
   unfolding appendable
   append-test cur tl c m e lt r =
-      let n1 : to .offset + H + cur + length tl ≤ g .size = omega (arith, l, v .in-block-to) in
-      let n2 : to .offset + H + cur + length tl + length c ≤ g .size = omega (arith, l, v .in-block-to) in
-      let n3 : cur ≤ g .size = omega (arith, l, v .in-block-to) in
+      let n1 : to .offset + H + cur + length tl ≤ g .size = omega (arith, l, v .ready .in-block-to) in
+      let n2 : to .offset + H + cur + length tl + length c ≤ g .size = omega (arith, l, v .ready .in-block-to) in
+      let n3 : cur ≤ g .size = omega (arith, l, v .ready .in-block-to) in
       rw (sound-ran cur tl m e lt n3, le-leb _ _ n1, le-leb _ _ n2)
 
   abbrev whole : List ℕ → List ℕ → ℕ
@@ -267,7 +246,7 @@ module _ (g : Geometry) (h : ObjectHeader) (to : ObjectLocation) (t : ObjectType
       record {
         length-kept = length-apply (unitsOf w a bs) m ∙ k .length-kept;
         bytes-kept = λ j x y. frame j 0 (unitsOf w a bs) m
-            (inside w (l .pos) a bs q (q + sp) j h1 h2 (far-from p q sp j (v .apart) x y))
+            (inside w (l .pos) a bs q (q + sp) j h1 h2 (far-from p q sp j (v .ready .given .apart) x y))
             ∙ k .bytes-kept j x y;
       }
 
@@ -331,7 +310,7 @@ module _ (g : Geometry) (h : ObjectHeader) (to : ObjectLocation) (t : ObjectType
   unfolding chunk
   chunk-ran cur tl from n c m e r hc lt hl z =
       asked (readAt g b from n) (λ bs. append g (writer cur tl) bs) m (unitsOf w (q + H + cur) (take (whole tl c) (tl ++ c))) c (writer (cur + whole tl c) (drop (whole tl c) (tl ++ c)))
-      (read-yes g b from n m (still m e) (v .block) r ∙ ap done (sym hc)) (append-ran cur tl c m e lt hl z)
+      (read-yes g b from n m (still m e) (v .ready .block) r ∙ ap done (sym hc)) (append-ran cur tl c m e lt hl z)
 
   -- one turn, from what the later turns leave; the chunk and the count are variables here, so that nothing is written out
   turn : (k cur : ℕ) (tl : List ℕ) (from rest : ℕ) (m : List ℕ) (n : ℕ) (c : List ℕ) → n ≡ min 16 rest → c ≡ part (address g b from) n m → c ≡ part (address g b from) n img
@@ -376,7 +355,7 @@ module _ (g : Geometry) (h : ObjectHeader) (to : ObjectLocation) (t : ObjectType
       let r : from + rest ≤ off + sp = h2 (omega arith) in
       let c : List ℕ = part (address g b from) (min 16 rest) m in
       let lc : length (part (address g b from) (min 16 rest) m) ≡ min 16 rest = chunk-long from (min 16 rest) m (omega arith) kept in
-      turn k cur tl from rest m (min 16 rest) c refl refl (chunk-same from (min 16 rest) m h1 (omega arith) kept) lc (kept .length-kept) e z lt (omega (arith, v .in-block))
+      turn k cur tl from rest m (min 16 rest) c refl refl (chunk-same from (min 16 rest) m h1 (omega arith) kept) lc (kept .length-kept) e z lt (omega (arith, v .ready .in-block))
       (loop k (cur + whole tl c) (drop (whole tl c) (tl ++ c)) (from + 16) (rest - 16) (apply (unitsOf w (q + H + cur) (take (whole tl c) (tl ++ c))) m)
       (omega arith)
       (turn-total cur tl rest (min 16 rest) c refl lc e)
@@ -429,7 +408,7 @@ module _ (g : Geometry) (h : ObjectHeader) (to : ObjectLocation) (t : ObjectType
   pub delete-ran : (m : List ℕ) → length m ≡ length img → setState g h Deleted m ≡ ran (deleteUnits gr p) (headerOf (Allocated t Deleted) (h .size) (h .location))
   unfolding setState marking
   delete-ran m e =
-      ap (λ (st : CompositeObjectState). (test {W = flash} (λ i. checkOf g (length i)) >> stepTo g h Deleted st) m) (v .finished)
+      ap (λ (st : CompositeObjectState). (test {W = flash} (λ i. checkOf g (length i)) >> stepTo g h Deleted st) m) (v .ready .finished)
       ∙ tested (λ i. checkOf g (length i)) (marking g h t Deleted) m (deleteUnits gr p) (headerOf (Allocated t Deleted) (h .size) (h .location)) (still m e)
       (store-ran (write g b (off + deleteAt gr) (0 ∷ [])) m (deleteUnits gr p) (headerOf (Allocated t Deleted) (h .size) (h .location))
       (put-original m (deleteAt gr) (0 ∷ []) e (l .delete-even) (omega (arith, l))))
@@ -464,12 +443,12 @@ module _ (g : Geometry) (h : ObjectHeader) (to : ObjectLocation) (t : ObjectType
   unfolding finalize
   finalize-ran cur tl m e total z lt =
       tested (λ i. finishable (writer cur tl) g (length i)) (close g Valid (writer cur tl)) m (unitsOf w (q + H + cur) tl ++ closing) closed
-      (finish-test cur tl m e lt (omega (arith, l, v .in-block-to))) (close-ran cur tl m e total z lt)
+      (finish-test cur tl m e lt (omega (arith, l, v .ready .in-block-to))) (close-ran cur tl m e total z lt)
 
   -- ---- the whole
 
   source-ran : sourceAt g h img ≡ done (record { kind = t; size = length pay })
-  source-ran = source-of g h t (length pay) img (v .just-read) (v .finished) (v .payload)
+  source-ran = source-of g h t (length pay) img (v .just-read) (v .ready .finished) (v .ready .payload)
 
   allocate-ran : allocate g to t img ≡ ran (typeUnits gr t q) (writer 0 [])
   unfolding allocate
@@ -480,7 +459,7 @@ module _ (g : Geometry) (h : ObjectHeader) (to : ObjectLocation) (t : ObjectType
       ap (λ (i : ℕ). write g (to .block) i (typeByte t ∷ []) img) ad ∙ put img 0 (typeByte t ∷ []) refl (zero-mod w) (omega (arith, l))
       ∙ ap (λ (i : ℕ). ran (unitsOf w i (typeByte t ∷ [])) tt) aq in
       asked (stateAt g to) (λ st. ask (λ _. allocatableOf t st) >> (write g (to .block) (to .offset) (typeByte t ∷ []) >> give (writer 0 []))) img (typeUnits gr t q) (v .there) (writer 0 [])
-      (state-read g to img (v .fine) (v .block-to) (omega (arith, l, v .in-block-to)) ∙ v .state-there)
+      (state-read g to img (fine-now) (v .ready .block-to) (omega (arith, l, v .ready .in-block-to)) ∙ v .state-there)
       (asked (λ _. allocatableOf t (v .there)) (λ _. write g (to .block) (to .offset) (typeByte t ∷ []) >> give (writer 0 [])) img (typeUnits gr t q) tt (writer 0 []) (v .allocatable)
       (store-ran (write g (to .block) (to .offset) (typeByte t ∷ [])) img (typeUnits gr t q) (writer 0 []) st))
 

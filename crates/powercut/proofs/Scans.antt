@@ -266,6 +266,16 @@ module _ (g : Geometry) (h : ObjectHeader) (to : ObjectLocation) (room : ℕ) (t
   unfolding listing
   fits = subst (λ (e : ℕ). e + H < g .size) (w .last) (free-fits g dst img (v .fine) (g .size) start (w .stop))
 
+  -- a listing that steps over what stands at the destination, and finds a free place behind it where a header fits, ends there or at the block's end
+  over-it : (m : List ℕ) (f : checkOf g (length m) ≡ 0) (n : ℕ) (o : ObjectHeader) → infoAt g to m ≡ done (found o)
+      → (to .offset + spanAt g dst o + H < g .size → infoAt g (place g dst (to .offset + spanAt g dst o)) m ≡ done none)
+      → Ended (listFrom (suc (suc n)) g (placed dst (to .offset)) m .stop)
+  over-it m f n o i blank = subst (λ (x : Listing). Ended (x .stop)) (sym (at-object g dst m f (suc n) (to .offset) fits o i)) (go (leb-is (g .size) (to .offset + spanAt g dst o + H)))
+    where
+      go : (g .size ≤ to .offset + spanAt g dst o + H) ⊎ (to .offset + spanAt g dst o + H < g .size) → Ended (listFrom (suc n) g (placed dst (to .offset + spanAt g dst o)) m .stop)
+      go (inl b) = inl (ap (λ (x : Listing). x .stop) (at-end g dst m f n (to .offset + spanAt g dst o) b))
+      go (inr b) = inr (ap (λ (x : Listing). x .stop) (at-free g dst m f n (to .offset + spanAt g dst o) b (blank b)))
+
   -- ---- up to the destination
 
   abbrev visits : List Visit
@@ -312,17 +322,11 @@ module _ (g : Geometry) (h : ObjectHeader) (to : ObjectLocation) (room : ℕ) (t
 
   -- so a listing that steps over the copy ends there, or at the block's end
   behind-copy : (k : ℕ) → k ≤ N g h to t pay img r + 1 → (o : ObjectHeader) → infoAt g to (last k) ≡ done (found o) → sp ≤ spanAt g dst o → Ended (from-there k .stop)
-  behind-copy k c o i a = subst (λ (x : Listing). Ended (x .stop)) (sym (at-object g dst (last k) (fine k) (suc more) (to .offset) fits o i)) (go (leb-is (g .size) (to .offset + spanAt g dst o + H)))
-    where
-      go : (g .size ≤ to .offset + spanAt g dst o + H) ⊎ (to .offset + spanAt g dst o + H < g .size) → Ended (listFrom (suc more) g (placed dst (to .offset + spanAt g dst o)) (last k) .stop)
-      go (inl b) = inl (ap (λ (x : Listing). x .stop) (at-end g dst (last k) (fine k) more (to .offset + spanAt g dst o) b))
-      go (inr b) = inr (ap (λ (x : Listing). x .stop) (at-free g dst (last k) (fine k) more (to .offset + spanAt g dst o) b (behind-free k c (spanAt g dst o) a b)))
+  behind-copy k c o i a = over-it (last k) (fine k) more o i (λ b. behind-free k c (spanAt g dst o) a b)
 
   -- where no second header fits, any object is the last
   no-second : (k : ℕ) (o : ObjectHeader) → infoAt g to (last k) ≡ done (found o) → g .size ≤ to .offset + H + H → Ended (from-there k .stop)
-  no-second k o i b =
-      subst (λ (x : Listing). Ended (x .stop)) (sym (at-object g dst (last k) (fine k) (suc more) (to .offset) fits o i))
-      (inl (ap (λ (x : Listing). x .stop) (at-end g dst (last k) (fine k) more (to .offset + spanAt g dst o) (omega (arith, span-least g dst (last k) (fine k) o)))))
+  no-second k o i b = over-it (last k) (fine k) more o i (λ c. absurd (omega (arith, span-least g dst (last k) (fine k) o)))
 
   -- with no size the listing goes on behind the header
   after-header : (k : ℕ) (o : ObjectHeader) → infoAt g to (last k) ≡ done (found o) → o .size ≡ unsetOf (g .s) → from-there k .stop ≡ listFrom (suc more) g (placed dst (to .offset + H)) (last k) .stop
@@ -461,17 +465,11 @@ module _ (g : Geometry) (h : ObjectHeader) (to : ObjectLocation) (room : ℕ) (t
         let n : start + length vs ≤ to .offset = walk-le g dst m fine-moved vs start (to .offset) k in
         let u : g .size - length vs ≡ suc (suc (g .size - length vs - 2)) = omega (arith, n, fits, ld) in
         subst Ended
-        (sym (stop-behind g dst m fine-moved vs start (to .offset) (g .size) k (omega (arith, n, fits)) ∙ ap (λ (i : ℕ). listFrom i g (placed dst (to .offset)) m .stop) u
-        ∙ ap (λ (x : Listing). x .stop) (at-object g dst m fine-moved (suc (g .size - length vs - 2)) (to .offset) fits (copyOf g h to) (copy .info))))
-        (go (g .size - length vs - 2) (leb-is (g .size) (to .offset + spanAt g dst (copyOf g h to) + H)))
+        (sym (stop-behind g dst m fine-moved vs start (to .offset) (g .size) k (omega (arith, n, fits)) ∙ ap (λ (i : ℕ). listFrom i g (placed dst (to .offset)) m .stop) u))
+        (over-it m fine-moved (g .size - length vs - 2) (copyOf g h to) (copy .info) (λ b. behind-moved (spanAt g dst (copyOf g h to)) span-copy b))
       where
         span-copy : spanOf gr (g .s) h ≤ spanAt g dst (copyOf g h to)
         span-copy = subst (λ (n : ℕ). n ≤ spanAt g dst (copyOf g h to)) (sym (span-is g h to t pay img r)) finished-span
-
-        go : (i : ℕ) → (g .size ≤ to .offset + spanAt g dst (copyOf g h to) + H) ⊎ (to .offset + spanAt g dst (copyOf g h to) + H < g .size)
-            → Ended (listFrom (suc i) g (placed dst (to .offset + spanAt g dst (copyOf g h to))) m .stop)
-        go i (inl b) = inl (ap (λ (x : Listing). x .stop) (at-end g dst m fine-moved i (to .offset + spanAt g dst (copyOf g h to)) b))
-        go i (inr b) = inr (ap (λ (x : Listing). x .stop) (at-free g dst m fine-moved i (to .offset + spanAt g dst (copyOf g h to)) b (behind-moved (spanAt g dst (copyOf g h to)) span-copy b)))
 
     -- the original in another block
     walk-apart : src ≢ dst → Walked g dst m start visits (to .offset)
