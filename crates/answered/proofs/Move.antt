@@ -1,12 +1,12 @@
 -- `stumpchoir_move_object` meets the demand on a move.
-use mathlib.Core.Path.{_≡_, refl, sym, ap, _∙_}
+use mathlib.Core.Path.{_≡_, refl, ap}
 use mathlib.Core.Bool.{Bool}
 use mathlib.Core.List.{List}
 use Prim.Native.Nat.{ℕ}
 use denote.Ref.{now}
 use Rattle.medium.specs.declared.geometry.Geometry.{Geometry}
 use Rattle.medium.specs.Geometry.{geometryOf}
-use Rattle.medium.specs.Operation.{End, Answer, done, run}
+use Rattle.medium.specs.Operation.{done, run}
 use Rattle.objects.specs.declared.location.ObjectLocation.{ObjectLocation}
 use Rattle.objects.specs.declared.header.ObjectHeader.{ObjectHeader}
 use Rattle.writer.specs.Moving.{moveObject}

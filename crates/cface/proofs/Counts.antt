@@ -11,11 +11,9 @@ use Rattle.medium.specs.declared.geometry.Geometry.{Geometry}
 use Rattle.medium.specs.declared.fuse.Fuse.{Fuse}
 use Rattle.medium.specs.declared.fuse.Stored.{Stored}
 use Rattle.medium.specs.declared.fuse.Stored.the-variants.{Done, Refused}
-use Rattle.medium.specs.Granularity.{pick, header}
-use Rattle.medium.specs.Geometry.{fitOf}
-use Rattle.medium.specs.Operation.{Answer, done, refused, andThen, orRefuse, Op, _>>=_, ask, give, test, run, endedBy}
-use Rattle.medium.proofs.Checks.{Sound, fit-sound}
-use Rattle.medium.proofs.Places.{width-is, laid}
+use Rattle.medium.specs.Granularity.{pick}
+use Rattle.medium.specs.Operation.{done, Op, _>>=_, ask, give, test, run, endedBy}
+use Rattle.medium.proofs.Places.{width-is}
 use Rattle.medium.proofs.Runs.{value-of, bound}
 use Rattle.objects.specs.declared.types.ObjectType.{ObjectType}
 use Rattle.objects.specs.declared.state.ObjectDataState.{ObjectDataState}
@@ -25,8 +23,8 @@ use Rattle.objects.specs.declared.header.ObjectHeader.{ObjectHeader}
 use Rattle.objects.specs.Types.{rankOf}
 use Rattle.objects.specs.Header.{setState, setPayloadSize}
 use Rattle.writer.specs.declared.writer.ObjectWriter.{ObjectWriter}
-use Rattle.writer.specs.Writer.{freshOf, withHeader, emptied, dataAt, possible, spaceOf, payloadSize, totalSize, allocate, soundOf, appendable, wholeOf, pendingOf, heldBack, putBytes, append, finishable, flush, close, finalize, deleting, delete}
-use Rattle.writer.proofs.Laws.{width, Possible, possible-is, sound-is, append-is, finish-is}
+use Rattle.writer.specs.Writer.{freshOf, withHeader, emptied, possible, allocate, soundOf, appendable, wholeOf, pendingOf, heldBack, putBytes, append, finishable, flush, close, finalize, deleting, delete}
+use Rattle.writer.proofs.Laws.{width, Possible, sound-is, append-is, finish-is}
 use Rattle.writer.proofs.Steps.{whole-le}
 use Rattle.writer.proofs.Stored.{gave, none-refused, allocate-stores, append-stores, flush-stores}
 use Rattle.cface.specs.Writers.{sayableOf, Small, SmallBy}

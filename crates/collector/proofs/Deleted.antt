@@ -14,7 +14,7 @@ use Rattle.medium.specs.declared.geometry.Geometry.{Geometry}
 use Rattle.medium.specs.Granularity.{pick, deleteAt}
 use Rattle.medium.specs.Geometry.{checkOf, address}
 use Rattle.medium.specs.Units.{FlashUnit}
-use Rattle.medium.specs.Operation.{flash, happen, apply, Answer, done, Op, _>>=_, ask, give, putting}
+use Rattle.medium.specs.Operation.{flash, apply, Answer, done, Op, _>>=_, ask, give, putting}
 use Rattle.medium.specs.Medium.{write}
 use Rattle.medium.specs.Beside.{Both, onImage, beside}
 use Rattle.medium.proofs.Writes.{write-byte}

@@ -9,7 +9,7 @@ use borrow.Author.Tests.{le-leb, lt-leb}
 use Rattle.medium.specs.declared.geometry.Geometry.{Geometry}
 use Rattle.medium.specs.Granularity.{sizeAt, header}
 use Rattle.medium.specs.Geometry.{checkOf}
-use Rattle.medium.specs.Operation.{Answer, done}
+use Rattle.medium.specs.Operation.{Answer, done, refused}
 use Rattle.objects.specs.declared.state.CompositeObjectState.{CompositeObjectState}
 use Rattle.objects.specs.declared.state.CompositeObjectState.the-variants.{Free, Allocated}
 use Rattle.objects.specs.declared.location.ObjectLocation.{ObjectLocation}

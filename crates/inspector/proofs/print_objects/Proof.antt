@@ -1,4 +1,4 @@
-use mathlib.Core.Path.{sym, _∙_}
+use mathlib.Core.Path.{sym}
 use Prim.Native.Nat.{_-_}
 use native.Mathlib.Omega.{arith}
 use borrow.Author.Needs.{needs}
@@ -32,7 +32,7 @@ print-object-requires c κs = search needs
 
 loop-less : tie.Need-loop-less Inv-loop μ-loop
 loop-less c =
-    let v = next-moves _ _ _ _ _ (sym (c .before .before .before .before .next .ensures) ∙ c .before .before .n .given .1) in
+    let v = next-moves _ _ _ _ _ (sym (rw (c .before .before .n .given .1) at (c .before .before .before .before .next .ensures))) in
     omega (arith, v .forward, v .within, header-some (c .before .before .before .before .before .before .before .before .args .g .granularity) (c .before .before .before .before .before .before .before .before .args .g .s))
 
 loop-again : tie.Need-loop-again Inv-loop μ-loop

@@ -24,16 +24,16 @@ refusal-requires : tie.Need-refusal-requires
 refusal-requires c κs = search needs
 
 returns : tie.Need-returns
-returns c = rw (← @geometry .ensures) (none-told _ _ _ _ _ _ (sym (rw (@enum-told .given .1) at (@metadata-of .ensures))) (rw (@enum-told .given .1) at (@number .ensures)) (@refusal .ensures))
+returns c = rw (← c .before .before .before .before .before .before .geometry .ensures) (none-told _ _ _ _ _ _ (sym (rw (c .before .before .enum-told .given .1) at (c .before .before .before .before .metadata-of .ensures))) (rw (c .before .before .enum-told .given .1) at (c .before .number .ensures)) (c .refusal .ensures))
 
 next-object-location-requires : tie.Need-next-object-location-requires
 next-object-location-requires c κs = search needs
 
 hand-next-requires : tie.Need-hand-next-requires
-hand-next-requires c κs = next-small _ _ _ (@next-object-location .result) (@next-object-location .ensures)
+hand-next-requires c κs = next-small _ _ _ (c .before .before .before .next-object-location .result) (c .before .before .before .next-object-location .ensures)
 
 returns-2 : tie.Need-returns-2
-returns-2 c = rw (← @geometry .ensures) (asked-told _ _ _ _ _ _ (sym (rw (@of .given .1) at (@metadata-of .ensures))) (@next-object-location .ensures) (@hand-next .ensures))
+returns-2 c = rw (← c .before .before .before .before .before .before .before .before .before .before .geometry .ensures) (asked-told _ _ _ _ _ _ (sym (rw (c .before .before .before .before .before .before .of .given .1) at (c .before .before .before .before .before .before .before .before .metadata-of .ensures))) (c .before .before .before .before .next-object-location .ensures) (c .hand-next .ensures))
 
 pub stumpchoir-metadata-next-object-location-spec : {M : Type 1} → statement M
 stumpchoir-metadata-next-object-location-spec =

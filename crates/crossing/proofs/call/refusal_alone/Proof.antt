@@ -1,4 +1,3 @@
-use mathlib.Core.Path.{sym}
 use Rattle.crossing.proofs.Crossings.{alone-pass, alone-stop}
 use borrow.Author.Needs.{needs}
 use Rattle.crossing.proofs.call.refusal_alone.Statement.{statement}
