@@ -24,7 +24,7 @@ use Rattle.objects.specs.declared.metadata.NextLocation.{NextLocation}
 use Rattle.objects.specs.Types.{rankOf}
 use Rattle.objects.specs.Header.{headerAt, payloadOf, payloadSizeOf}
 use Rattle.objects.specs.Info.{Info, found, none, infoAt}
-use Rattle.objects.specs.Reader.{Chunk, possible, readable, readerAnswer, readerAt, remainingOf, leftOf, cursorAt, moved, readSome, readingAnswer, counting}
+use Rattle.objects.specs.Reader.{Chunk, possible, readable, readerAnswer, readerAt, remainingOf, leftOf, cursorAt, moved, readSome, Counting, readingAnswer, counting}
 use Rattle.objects.specs.Metadata.{metadataAnswer, hashAt, numberAt, locationAt, readMetadata, metadataOf, metadataAt, listEnd, listable, listedAt, pastLocation, Listed, location, noMore, nextLocationAnswer, nextListed, nextLocation}
 use Rattle.objects.proofs.Reading.{passed, payload-le}
 use Rattle.cface.specs.Objects.{SmallReader, SmallMetadata, SmallNext}
@@ -92,8 +92,8 @@ read-fits g r n img {m} {next} e = go (readSome g r n img) refl e
   where
     go : (a : Answer Chunk) → readSome g r n img ≡ a → readingAnswer (reading.Read m next) ≡ andThen a counting → next .cursor ≤ r .object .size
     go (done k) d h =
-        let q : next ≡ k .reader = cc in
-        omega (arith, read-small g r n img k d, ap (λ (x : ObjectReader). x .cursor) q)
+        let w : _≡_ {A = Counting} (record { count = m; reader = next }) (record { count = length (k .bytes); reader = k .reader }) = cc in
+        omega (arith, read-small g r n img k d, ap (λ (x : Counting). x .reader .cursor) w)
     go (refused k) d h = let z : _≡_ {A = ℕ} 0 1 = cc in absurd (omega arith)
 
 -- ---- metadata headers

@@ -1,5 +1,5 @@
 -- Bytes that a call fills, beside the number of its answer.
-use mathlib.Core.Path.{_≡_, refl}
+use mathlib.Core.Path.{_≡_, refl, ap}
 use mathlib.Core.Bool.{Bool, true, false}
 use mathlib.Core.List.{List, _++_}
 use Prim.Native.Nat.{ℕ, zero, suc, _+_}
@@ -14,7 +14,7 @@ use Rattle.medium.specs.Operation.{Answer, done, refused, andThen, orRefuse, nu
 use Rattle.objects.specs.declared.location.ObjectLocation.{ObjectLocation}
 use Rattle.objects.specs.declared.reader.ObjectReader.{ObjectReader}
 use Rattle.objects.specs.declared.reader.Reading.the-variants as reading
-use Rattle.objects.specs.Reader.{Chunk, readingAnswer, counting, filled}
+use Rattle.objects.specs.Reader.{Chunk, Counting, readingAnswer, counting, filled}
 use Rattle.objects.specs.Location.{locationLength, locationBytes, intoBytes}
 use Rattle.objects.proofs.Numbers.{length-bytes}
 use Rattle.objects.proofs.Answers.{gate-stop}
@@ -63,8 +63,9 @@ module _ (q : Answer Chunk) (u : ℕ) (ns buffer : List ℕ) where
       go : (a : Answer Chunk) → readingAnswer (reading.Read n next) ≡ andThen a counting
           → told 0 (two (readerNumbers next) (two (filled a buffer) n)) ≡ told (numberOf a) (keptBy chunkOut a (two ns (two buffer u)))
       go (done k) h =
-          let m : next ≡ k .reader = cc in
-          let l : n ≡ length (k .bytes) = cc in
+          let w : _≡_ {A = Counting} (record { count = n; reader = next }) (record { count = length (k .bytes); reader = k .reader }) = cc in
+          let m : next ≡ k .reader = ap (λ (x : Counting). x .reader) w in
+          let l : n ≡ length (k .bytes) = ap (λ (x : Counting). x .count) w in
           rw (m, l)
       go (refused m) h = let z : _≡_ {A = ℕ} 0 1 = cc in absurd (omega arith)
 
