@@ -36,4 +36,4 @@ module _ (gs hs : List ℕ) (g : Geometry) (h : ObjectHeader) (to : ObjectLocati
 -- THE COROLLARY: whatever outcome the contract of the C function allows, for geometry numbers that say g and header numbers that say h
 pub move-object-answered : Every move.Post (λ _ a r e. (g : Geometry) (h : ObjectHeader) → geometryOf (now (a .0)) ≡ done g → headerOf (now (a .1 .1 .1 .1 .0)) ≡ done h
     → HandedBack g h (located (a .1 .1 .1 .1 .1 .0) (a .1 .1 .1 .1 .1 .1 .0)) (a .1 .1 .0) (now (a .1 .1 .1 .0)) (now (a .1 .0)) (now (a .1 .1 .1 .1 .1 .1 .1 .0)) r (now (e .1 .1 .1 .0)) (now (e .1 .0)) (now (e .1 .1 .1 .1 .1 .1 .1 .0)))
-move-object-answered _ a r e p g h d q = answers _ _ g h _ _ _ _ _ _ _ _ _ d q p
+move-object-answered _ a r e p g h d q = answers (now (a .0)) (now (a .1 .1 .1 .1 .0)) g h _ _ _ _ _ _ _ _ _ d q p
