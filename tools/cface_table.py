@@ -348,7 +348,8 @@ HEAD = r"""/* Stumpchoir for C: the low-level layer of norfs over an image in me
  * went in, but for a writer, which is spent after 8; image and units have exactly what was stored before the refusal.
  *
  * Pointers: none is kept after a call. No two of one call may overlap. `units` may be null where `fused` is false, and a buffer may be where
- * its length is 0; no other may be. A length is that of the buffer: a false one, as SIZE_MAX, no call can survive.
+ * its length is 0; no other may be. A length has to be that of the buffer, since no call can tell
+ * a false one. Bytes to read or write that are longer than a block get 3, by a writer 5, even SIZE_MAX; that is all a test can see.
  * There is no heap and no state beside what is lent, so calls on different images may run at the same time. Calls take less than 16 KiB of
  * stack (8,488 bytes with the thread's own were measured by tools/c-sample).
  *
