@@ -126,8 +126,8 @@ WRITERS = [
          calls='writer::writer::ObjectWriter::total_size', on='w', args='g', means='totalSize g w', hand='count', homes=['writer totalSize']),
     dict(name='writer_write', says='Takes payload bytes: whole words are stored, less than a word is held. 5 where they are more than the space.',
          place='store', params='writer=writer src[]', value='writer', calls='writer::writer::ObjectWriter::write', on='w',
-         args='g, image, f, src', means='append g w src', hand='writer',
-         small='small-by _ _ _ _ (@write .result .answer) (@write .result .writer) (@write .ensures .0) (append-small _ _ _ _ _)'),
+         args='g, image, f, src', means='writeSome g w src', hand='writer',
+         small='small-by _ _ _ _ (@write .result .answer) (@write .result .writer) (@write .ensures .0) (some-small _ _ _ _ _)'),
     dict(name='writer_finalize', says='Ends the object: what is held, the size, and the mark of a Finalized object.', place='store',
          params='writer=writer', value='writer', calls='writer::writer::ObjectWriter::finalize', on='w', args='g, image, f',
          means='finalize g w', hand='writer',
@@ -206,10 +206,10 @@ MOVING = [
          args='g, image, f, at, t, src', means='writeTo g at t src', hand='total', ended='wrote-ended (@write-to .result) _ ∙ {}'),
     dict(name='copy_object',
          says='The Finalized object that a header names, anew at another place: its header there. The type is the one that the header says.',
-         place='store', params='header<header block offset copy>header', value='header', calls='writer::moving::copy_object',
+         place='store', params='header<header block offset copy>header', value='header', calls='moving::copy_object',
          args='g, image, f, h, to', means='copyObject g h to', hand='headed'),
     dict(name='move_object', says='The same, and then the object is deleted where it was.', place='store',
-         params='header<header block offset copy>header', value='header', calls='writer::moving::move_object',
+         params='header<header block offset copy>header', value='header', calls='moving::move_object',
          args='g, image, f, h, to', means='moveObject g h to', hand='headed'),
 ]
 

@@ -1,35 +1,15 @@
-"""The public functions of the libraries, as their sources have them: for tools/promises and tools/outcomes."""
+"""The public functions of the libraries, as their sources have them: for tools/promises, outcomes and cface."""
 import collections
 import glob
 import os
 import re
 
-ITEM = re.compile(r'\bmod\s+(?P<mod>\w+)\s*\{|\bimpl\b\s*(?P<impl>\w+)[^{;]*\{'
-                  r'|(?P<access>\bpub(?:\s*\([^)]*\))?\s+)?(?P<c>extern\s+"[^"]*"\s+)?\bfn\s+(?P<fn>\w+)|[{}]')
+from common import ITEM, code, past, read
+
 CLAUSE = re.compile(r'\s*\b(requires|ensures)\b[^{]*\{')
 
 # name: crate::module::function; clauses: (kind, text) in order; params: (name, type) in order; answers: whether it returns a value
 Function = collections.namedtuple('Function', 'name clauses params answers')
-
-
-def read(path):
-    with open(path, encoding='utf-8') as f:
-        return f.read()
-
-
-def blank(text):
-    """The text with comments and literals made blank, each character in its place."""
-    return re.sub(r'//[^\n]*|"(?:\\.|[^"\\])*"', lambda m: re.sub(r'[^\n"]', ' ', m.group()), text)
-
-
-def past(text, at):
-    """The place after the bracket that closes the one at AT."""
-    depth = 0
-    for i in range(at, len(text)):
-        depth += (text[i] in '([{') - (text[i] in ')]}')
-        if depth == 0:
-            return i + 1
-    return len(text)
 
 
 def parameters(text):
@@ -66,7 +46,7 @@ def libraries():
 
 def public(crate):
     """Each public function of a crate."""
-    texts = {f: blank(read(f)) for f in sorted(glob.glob(f'crates/{crate}/src/**/*.rt', recursive=True))}
+    texts = {f: code(read(f)) for f in sorted(glob.glob(f'crates/{crate}/src/**/*.rt', recursive=True))}
     whole = '\n'.join(texts.values())
     closed = set(re.findall(r'(?<!pub )\bmod\s+(\w+)\s*;', whole))
     again = ' '.join(re.findall(r'\bpub use\s([^;]*);', whole))

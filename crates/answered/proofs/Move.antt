@@ -9,7 +9,7 @@ use Rattle.medium.specs.Geometry.{geometryOf}
 use Rattle.medium.specs.Operation.{done, run}
 use Rattle.objects.specs.declared.location.ObjectLocation.{ObjectLocation}
 use Rattle.objects.specs.declared.header.ObjectHeader.{ObjectHeader}
-use Rattle.writer.specs.Moving.{moveObject}
+use Rattle.moving.specs.Moving.{moveObject}
 use Rattle.powercut.proofs.Survive.{call-survives}
 use Rattle.crossing.specs.Crossing.{geometryIn, given, fuseOf, CrossingWith, crossedWith, crossingWith}
 use Rattle.crossing.specs.Values.{located, headerOf, headerNumbers}

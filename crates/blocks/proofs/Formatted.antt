@@ -5,50 +5,46 @@ use mathlib.Core.Bool.{Bool, true, false, _&&_, false≢true}
 use mathlib.Core.List.{List, [], _∷_, _++_}
 use Prim.Native.Nat.{ℕ, zero, suc, _+_, _-_, _*_, _≤_, _<_}
 use native.Mathlib.Omega.{arith}
-use lib.ListN.{length, take, getD, replicate, length-replicate, getD-replicate}
+use lib.ListN.{length, getD, replicate, length-replicate, getD-replicate}
 use lib.Dec.{eqb}
 use borrow.Author.Tests.{eqb-true, eqb-false, lt-leb}
 use Rattle.medium.specs.declared.granularity.Granularity.{Granularity}
 use Rattle.medium.specs.declared.geometry.Geometry.{Geometry}
-use Rattle.medium.specs.declared.fuse.Fuse.{Fuse}
-use Rattle.medium.specs.declared.fuse.Fuse.the-variants.{Absent, Units}
-use Rattle.medium.specs.Granularity.{pick, longestBlockHeader, widthOf, alignOf, sizeAt, header, blockHeader, layoutBit}
+use Rattle.medium.specs.declared.fuse.Fuse.the-variants.{Absent}
+use Rattle.medium.specs.Granularity.{pick, longestBlockHeader, widthOf, alignOf, sizeAt, header, blockHeader}
 use Rattle.medium.specs.Geometry.{checkOf, address}
 use Rattle.medium.specs.Units.{under, blank}
 use Rattle.medium.specs.Operation.{Answer, done, refused, andThen, End, run}
-use Rattle.medium.specs.Medium.{part, readable, writable, erasable, readAt, write, erase}
+use Rattle.medium.specs.Medium.{part, readable, erasable, readAt, write, erase}
 use Rattle.medium.proofs.Runs.{run-bind, run-ask, run-done, leb-is}
-use Rattle.medium.proofs.Bytes.{Off, length-part, getD-part, part-is, length-erased}
+use Rattle.medium.proofs.Bytes.{length-part, getD-part, part-is, length-erased}
 use Rattle.medium.proofs.Split.{part-add}
 use Rattle.medium.proofs.Padding.{AreBytes, cons-bytes, append-bytes, take-bytes, ff-bytes}
 use Rattle.medium.proofs.Frame.{run-long, write-beside}
 use Rattle.medium.proofs.Stores.{erase-run}
-use Rattle.medium.proofs.Erased.{erased-at, readable-written, written-reads}
+use Rattle.medium.proofs.Erased.{erased-at, written-reads}
 use Rattle.medium.proofs.Places.{headed, laid, even-align}
 use Rattle.medium.proofs.Checks.{Fine, fine-of-check}
 use Rattle.medium.proofs.Ranges.{reached, readable-within, read-part}
 use Rattle.objects.specs.declared.location.ObjectLocation.{ObjectLocation}
-use Rattle.objects.specs.declared.state.CompositeObjectState.{CompositeObjectState}
 use Rattle.objects.specs.declared.state.CompositeObjectState.the-variants as comp
-use Rattle.objects.specs.declared.header.ObjectHeader.{ObjectHeader}
-use Rattle.objects.specs.Numbers.{number, bytes}
+use Rattle.objects.specs.Numbers.{bytes}
 use Rattle.objects.specs.Types.{typeOf, stateIn}
 use Rattle.objects.specs.Header.{stateAt, sizedAt, headerAt}
-use Rattle.objects.specs.Info.{none, infoIn, infoAt}
+use Rattle.objects.specs.Info.{none, infoAt}
 use Rattle.objects.specs.Listing.{freePlace, startOf, nextOf, listing}
 use Rattle.objects.proofs.Numbers.{byte-bytes}
 use Rattle.objects.proofs.Places.{places}
 use Rattle.objects.proofs.Answers.{or-on}
-use Rattle.blocks.specs.declared.header.BlockType.{BlockType}
 use Rattle.blocks.specs.declared.header.BlockType.the-variants.{Metadata, Data, Undefined}
 use Rattle.blocks.specs.declared.header.BlockHeaderKind.{BlockHeaderKind}
 use Rattle.blocks.specs.declared.header.BlockHeaderKind.the-variants.{Empty, Unknown, Known}
 use Rattle.blocks.specs.declared.header.BlockHeader.{BlockHeader}
-use Rattle.blocks.specs.BlockHeader.{typeByte, typeIf, layoutByte, around, wideBytes, headerBytes, writeHeader, kindIn, eraseCountIn, headerIn, blockHeaderAt}
+use Rattle.blocks.specs.BlockHeader.{typeIf, layoutByte, around, wideBytes, headerBytes, writeHeader, kindIn, eraseCountIn, headerIn, blockHeaderAt}
 use Rattle.blocks.specs.Format.{allFF, dataLength, dataEmptyAt, Planned, keep, label, renew, again, planEmpty, planUndefined, planKnown, planOf, planAt, undefined, labelling, renewing, carryOut, formatBlock}
 use Rattle.blocks.specs.Scan.{scanBlock}
-use Rattle.blocks.specs.Formatted.{HeaderReadsBack, countBy, countIn, plannedCount, freshRecord, FormattedScans}
-use Rattle.blocks.proofs.Headers.{bit-small, readable-of, check-of-read, check-of-header}
+use Rattle.blocks.specs.Formatted.{HeaderReadsBack, countBy, plannedCount, freshRecord, FormattedScans}
+use Rattle.blocks.proofs.Headers.{bit-small, readable-of, check-of-header}
 use Rattle.blocks.proofs.Formats.{reach-fine, reach-checked, reach-below, length-header, label-writes, planned, format-on, format-stop}
 use Rattle.blocks.proofs.Scans.{scan-by, scan-free}
 use Rattle.blocks.proofs.ReadBack.{header-back, header-ff}

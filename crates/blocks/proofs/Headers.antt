@@ -13,7 +13,7 @@ use Rattle.medium.specs.declared.geometry.Geometry.{Geometry}
 use Rattle.medium.specs.declared.fuse.Fuse.{Fuse}
 use Rattle.medium.specs.declared.fuse.Stored.the-variants.{Refused}
 use Rattle.medium.specs.Granularity.{pick, longestBlockHeader, typeAt, layoutBit}
-use Rattle.medium.specs.Geometry.{geometryOk, admit, checkOf, address}
+use Rattle.medium.specs.Geometry.{checkOf, address}
 use Rattle.medium.specs.Operation.{Answer, done, refused, andThen, run, ended}
 use Rattle.medium.specs.Medium.{part, readable, writable, readAt, write}
 use Rattle.medium.proofs.Checks.{admit-stop, passed}

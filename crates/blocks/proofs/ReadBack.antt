@@ -1,8 +1,8 @@
 -- The bytes of a header: they read back as its kind and count; those of an erased header are FF.
-use mathlib.Core.Path.{_≡_, refl, sym, ap, ap₂, _∙_}
+use mathlib.Core.Path.{_≡_, refl, ap₂}
 use mathlib.Core.Logic.{_⊎_, inl, inr}
 use mathlib.Core.Bool.{Bool, true, false, _&&_, _||_, false≢true}
-use mathlib.Core.List.{List, [], _∷_, _++_}
+use mathlib.Core.List.{List, _++_}
 use Prim.Native.Nat.{ℕ, zero, suc, _+_, _≤_, _<_}
 use native.Mathlib.Omega.{arith}
 use lib.ListN.{take, getD}
@@ -18,7 +18,6 @@ use Rattle.blocks.specs.declared.header.BlockType.{BlockType}
 use Rattle.blocks.specs.declared.header.BlockType.the-variants.{Metadata, Data, Undefined}
 use Rattle.blocks.specs.declared.header.BlockHeaderKind.{BlockHeaderKind}
 use Rattle.blocks.specs.declared.header.BlockHeaderKind.the-variants.{Empty, Unknown, Known}
-use Rattle.blocks.specs.declared.header.BlockHeader.{BlockHeader}
 use Rattle.blocks.specs.BlockHeader.{typeByte, typeIf, layoutByte, around, wideBytes, headerBytes, named, paddedFrom, padded, marked, blank, kindOfType, namedKind, kindIn, eraseCountIn}
 use Rattle.blocks.specs.Formatted.{readsAs, HeaderReadsBack}
 

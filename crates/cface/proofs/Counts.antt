@@ -23,10 +23,10 @@ use Rattle.objects.specs.declared.header.ObjectHeader.{ObjectHeader}
 use Rattle.objects.specs.Types.{rankOf}
 use Rattle.objects.specs.Header.{setState, setPayloadSize}
 use Rattle.writer.specs.declared.writer.ObjectWriter.{ObjectWriter}
-use Rattle.writer.specs.Writer.{freshOf, withHeader, emptied, possible, allocate, soundOf, appendable, wholeOf, pendingOf, heldBack, putBytes, append, finishable, flush, close, finalize, deleting, delete}
-use Rattle.writer.proofs.Laws.{width, Possible, sound-is, append-is, finish-is}
+use Rattle.writer.specs.Writer.{freshOf, withHeader, emptied, possible, allocate, soundOf, mayWrite, wholeOf, pendingOf, heldBack, putBytes, writeSome, mayFinish, flush, close, finalize, deleting, delete}
+use Rattle.writer.proofs.Laws.{width, Possible, sound-is, has-room, finish-is}
 use Rattle.writer.proofs.Steps.{whole-le}
-use Rattle.writer.proofs.Stored.{gave, none-refused, allocate-stores, append-stores, flush-stores}
+use Rattle.writer.proofs.Stored.{gave, none-refused, allocate-stores, some-stores, flush-stores}
 use Rattle.cface.specs.Writers.{sayableOf, Small, SmallBy}
 
 -- ---- what a passed test of the numbers tells
@@ -54,12 +54,12 @@ unfolding test ask
 tested q p img b e = let c = bound (test q) (λ _. p) img b e in (none-refused (q img) (c .value) (c .first), c .second)
 
 module _ (g : Geometry) (w : ObjectWriter) (img : List ℕ) (v : ObjectWriter) where
-  pub append-small : (src : List ℕ) → append g w src img .answer ≡ done v → Small v
-  unfolding append
-  append-small src e =
-      let t = tested (λ i. appendable w g (length i) (length src)) (putBytes g w n bs) img v e in
-      let a = append-is w g (length img) (length src) 0 (sym (t .0)) refl in
-      let q : v ≡ heldBack w n (drop n bs) = gave (append g w src) img _ _ v (append-stores g w img src) e in
+  pub some-small : (src : List ℕ) → writeSome g w src img .answer ≡ done v → Small v
+  unfolding writeSome
+  some-small src e =
+      let t = tested (λ i. mayWrite w g (length i) (length src)) (putBytes g w n bs) img v e in
+      let a = has-room w g (length img) (length src) 0 (sym (t .0)) refl in
+      let q : v ≡ heldBack w n (drop n bs) = gave (writeSome g w src) img _ _ v (some-stores g w img src) e in
       let l : length bs ≡ length (take (w .held) (w .tail)) + length src = length-append (take (w .held) (w .tail)) src in
       rw q (
         omega (arith, l, length-take (w .held) (w .tail), whole-le (width g) (length bs), a .fits, a .sound .fine .sound .small),
@@ -89,7 +89,7 @@ module _ (g : Geometry) (w : ObjectWriter) (img : List ℕ) (v : ObjectWriter) w
   pub finalize-small : finalize g w img .answer ≡ done v → Small v
   unfolding finalize
   finalize-small e =
-      let t = tested (λ i. finishable w g (length i)) (close g Valid w) img v e in
+      let t = tested (λ i. mayFinish w g (length i)) (close g Valid w) img v e in
       close-small Valid (finish-is w g (length img) 0 (sym (t .0)) refl .possible) (t .1)
 
   pub delete-small : delete g w img .answer ≡ done v → Small v

@@ -14,7 +14,6 @@ ghost use Rattle.blocks.specs.BlockHeader.{blockHeaderAt, writeHeader};
 ghost use Rattle.blocks.specs.Format.{dataEmptyAt, formatBlock, formatStorage, setBlockType};
 ghost use Rattle.blocks.specs.Record.{kindOf, recordNumbers};
 ghost use Rattle.blocks.specs.Scan.{scanBlock, calculateFreeableSpace};
-ghost use Rattle.collector.specs.Table.{kind};
 ghost use Rattle.crossing.specs.Crossing.{told, telling, geometryIn, crossed, crossing, fuseOf, given, plain};
 ghost use Rattle.crossing.specs.Records.{blockHeaderNumbers, blockHeaderOf, flagNumber, blockTypeOf};
 

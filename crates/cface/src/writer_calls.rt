@@ -9,8 +9,7 @@ use objects::location::ObjectLocation;
 use writer::writer::ObjectWriter;
 ghost use mathlib.Core.Path.{_≡_};
 ghost use Rattle.medium.specs.Operation.{run};
-ghost use Rattle.writer.specs.Writer.{allocate, spaceOf, payloadSize, totalSize, append, finalize, delete};
-ghost use Rattle.collector.specs.Table.{kind};
+ghost use Rattle.writer.specs.Writer.{allocate, spaceOf, payloadSize, totalSize, writeSome, finalize, delete};
 ghost use Rattle.crossing.specs.Crossing.{crossedWith, crossingWith, fuseOf, given, geometryIn, told, telling, plain, asked};
 ghost use Rattle.crossing.specs.Kinds.{objectTypeOf};
 ghost use Rattle.crossing.specs.Values.{located};
@@ -114,7 +113,7 @@ pub extern "C" fn stumpchoir_writer_write(
     writer: &mut [u32; 12],
     src: &[u8],
 ) -> u8
-    ensures { λ r. ⌜ crossedWith r (now (units .exit)) (now (image .exit)) (now (writer .exit)) ≡ spentAfter (crossingWith writerNumbers (now (units .entry)) (now (writer .entry)) (run (fuseOf fused (now (units .entry))) (given (geometryIn (now (geometry .entry))) (writerOf (now (writer .entry))) (λ g w. append g w (now (src .entry)))) (now (image .entry)))) ⌝ }
+    ensures { λ r. ⌜ crossedWith r (now (units .exit)) (now (image .exit)) (now (writer .exit)) ≡ spentAfter (crossingWith writerNumbers (now (units .entry)) (now (writer .entry)) (run (fuseOf fused (now (units .entry))) (given (geometryIn (now (geometry .entry))) (writerOf (now (writer .entry))) (λ g w. writeSome g w (now (src .entry)))) (now (image .entry)))) ⌝ }
 {
     let g = call::geometry(geometry);
     let of = writers::writer_of(writer);

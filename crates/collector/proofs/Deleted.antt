@@ -30,10 +30,11 @@ use Rattle.objects.specs.declared.header.ObjectHeader.{ObjectHeader}
 use Rattle.objects.specs.declared.header.PayloadSize.{PayloadSize}
 use Rattle.objects.specs.declared.header.PayloadSize.the-variants.{Set, Unset}
 use Rattle.objects.specs.Types.{rankOf}
+use Rattle.objects.specs.Payload.{payloadAt}
 use Rattle.objects.specs.Header.{payloadSizeOf, marking, stepTo, setState, updateState, setPayloadSize}
 use Rattle.blocks.specs.Scan.{isAllocated}
 use Rattle.collector.specs.Table.{Pass, allowing}
-use Rattle.collector.specs.Passes.{deleteObject, repairBy, payloadFrom, repairing, repaired, visitOne}
+use Rattle.collector.specs.Passes.{deleteObject, repairBy, repairing, repaired, visitOne}
 use Rattle.collector.proofs.Touched.{sized-as}
 
 -- ---- a byte 00
@@ -94,8 +95,8 @@ repair-left : (g : Geometry) (h : ObjectHeader) (used : ℕ) (img : List ℕ) (d
     → Repaired g h d (repairing g h used img .events) img
 unfolding repairing
 repair-left g h used img d one e =
-    let t = tested {W = flash} (λ _. pick (ltb used (payloadFrom g h)) 9 0) (λ _. repairBy g h (used - payloadFrom g h) (payloadSizeOf (g .s) h)) img d e in
-    rw t (repair-by-left g h (used - payloadFrom g h) (payloadSizeOf (g .s) h) img d one (rw t at e))
+    let t = tested {W = flash} (λ _. pick (ltb used (payloadAt g h)) 9 0) (λ _. repairBy g h (used - payloadAt g h) (payloadSizeOf (g .s) h)) img d e in
+    rw t (repair-by-left g h (used - payloadAt g h) (payloadSizeOf (g .s) h) img d one (rw t at e))
 
 -- a visit that is done: nothing was stored, and an unfinished object ends the listing; or such an object was deleted, and it goes on
 abbrev pub Visit-left : Geometry → ℕ → ℕ → ObjectHeader → Both → Bool → Type 0

@@ -29,6 +29,7 @@ use Rattle.objects.specs.declared.header.PayloadSize.{PayloadSize}
 use Rattle.objects.specs.declared.header.PayloadSize.the-variants.{Set, Unset}
 use Rattle.objects.specs.Numbers.{bytes}
 use Rattle.objects.specs.Types.{rankOf, rankTo}
+use Rattle.objects.specs.Payload.{payloadAt}
 use Rattle.objects.specs.Header.{payloadSizeOf, marking, stepTo, setState, updateState, sizableOf, withSize, setPayloadSize}
 use Rattle.objects.specs.Listing.{listing}
 use Rattle.blocks.specs.declared.header.BlockHeaderKind.{BlockHeaderKind}
@@ -40,7 +41,7 @@ use Rattle.blocks.specs.Format as format
 use Rattle.blocks.specs.Record.{erasedRecord, recordNumbers}
 use Rattle.blocks.specs.Scan.{isAllocated}
 use Rattle.collector.specs.Table.{Pass, allowMark, recordLength, fieldAt, storing, allowing}
-use Rattle.collector.specs.Passes.{deleteObject, repairBy, payloadFrom, repairing, repaired, visitOne, wornBy, wornOut, formatting, renewing, erasingBy, erasing, unfinishedIn, deletedIn, eraseInvalidFinishedBlock, eraseFullFinishedBlock}
+use Rattle.collector.specs.Passes.{deleteObject, repairBy, repairing, repaired, visitOne, wornBy, wornOut, formatting, renewing, erasingBy, erasing, unfinishedIn, deletedIn, eraseInvalidFinishedBlock, eraseFullFinishedBlock}
 
 -- ---- the repair of an unfinished object: its delete mark, and its size where it has none
 
@@ -111,9 +112,9 @@ module _ (P : FlashUnit → Type 0) (g : Geometry) where
       → All P (repairing g h used img .events)
   unfolding repairing
   repair-units h used img k z =
-      bind-each flash P (test (λ _. pick (ltb used (payloadFrom g h)) 9 0)) (λ _. repairBy g h (used - payloadFrom g h) (payloadSizeOf (g .s) h)) img
-      (test-each flash P (λ _. pick (ltb used (payloadFrom g h)) 9 0) img)
-      (λ _ _. repair-by-units h (used - payloadFrom g h) (payloadSizeOf (g .s) h) _ k z)
+      bind-each flash P (test (λ _. pick (ltb used (payloadAt g h)) 9 0)) (λ _. repairBy g h (used - payloadAt g h) (payloadSizeOf (g .s) h)) img
+      (test-each flash P (λ _. pick (ltb used (payloadAt g h)) 9 0) img)
+      (λ _ _. repair-by-units h (used - payloadAt g h) (payloadSizeOf (g .s) h) _ k z)
 
 -- ---- a visit: the repair and the allow mark, for an unfinished object alone
 

@@ -1,4 +1,3 @@
 pub mod Table
 pub mod Passes
 pub mod Finished
-pub mod Rows

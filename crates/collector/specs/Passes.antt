@@ -19,6 +19,7 @@ use Rattle.objects.specs.declared.header.PayloadSize.the-variants.{Set, Unset}
 use Rattle.objects.specs.declared.iterator.ObjectIterator.{ObjectIterator}
 use Rattle.objects.specs.Types.{rankOf}
 use Rattle.objects.specs.Header.{payloadSizeOf, setPayloadSize, updateState}
+use Rattle.objects.specs.Payload.{payloadAt}
 use Rattle.objects.specs.Listing.{startOf, Met, object, freePlace, blockEnd, nextOf, Visit, Stop, Listing, listing}
 use Rattle.blocks.specs.declared.header.BlockHeaderKind.{BlockHeaderKind}
 use Rattle.blocks.specs.declared.header.BlockHeaderKind.the-variants.{Empty, Unknown, Known}
@@ -51,15 +52,11 @@ repairBy g h n Unset = do
   v ← setPayloadSize g h n
   deleteObject g v
 
--- where the payload of an object starts in its block
-abbrev pub payloadFrom : Geometry → ObjectHeader → ℕ
-payloadFrom g h = h .location .offset + header (g .granularity) (g .s)
-
 -- whether it was deleted; 9 when the used bytes are smaller than offset plus header
 unfoldable pub repairing : Geometry → ObjectHeader → ℕ → Op Bool
 repairing g h used = do
-  test (λ _. pick (ltb used (payloadFrom g h)) 9 0)
-  repairBy g h (used - payloadFrom g h) (payloadSizeOf (g .s) h)
+  test (λ _. pick (ltb used (payloadAt g h)) 9 0)
+  repairBy g h (used - payloadAt g h) (payloadSizeOf (g .s) h)
 
 -- the allow mark is set and the listing goes on, or this block is done
 unfoldable pub repaired : ℕ → Bool → Pass Bool

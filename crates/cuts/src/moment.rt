@@ -10,7 +10,7 @@ use objects::state::CompositeObjectState;
 ghost use mathlib.Core.Path.{_≡_};
 ghost use Rattle.medium.specs.declared.fuse.Fuse.the-variants.{Units};
 ghost use Rattle.medium.specs.Operation.{run};
-ghost use Rattle.writer.specs.Moving.{moveObject};
+ghost use Rattle.moving.specs.Moving.{moveObject};
 ghost use Rattle.cuts.specs.Agree.{typeNumber, alike, agreeOf};
 ghost use Rattle.cuts.specs.Moment.{isFinished, apart, twinOf, lookOf, momentOf};
 
@@ -129,7 +129,7 @@ pub fn move_under(
     ensures { λ r. ⌜ r ≡ momentOf g h to (run (Units fuse) (moveObject g h to) (now (image .entry))) ⌝ }
     ensures { λ _. ⌜ now (image .exit) ≡ run (Units fuse) (moveObject g h to) (now (image .entry)) .state ⌝ }
 {
-    let moved = writer::moving::move_object(g, image, Fuse::Units(fuse), h, to);
+    let moved = moving::move_object(g, image, Fuse::Units(fuse), h, to);
     let a = moved.answer;
     let from = h.location;
     look(g, image, from, to, a.number())

@@ -1,4 +1,5 @@
 pub mod Runs
+pub mod Sequence
 pub mod Outcome
 pub mod Bytes
 pub mod Padding

@@ -8,4 +8,3 @@ pub mod Operation
 pub mod Beside
 pub mod Medium
 pub mod Bench
-pub mod Rows

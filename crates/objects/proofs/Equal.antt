@@ -2,13 +2,13 @@
 use native.Mathlib.Omega.{arith}
 use native.Mathlib.Numerals.{add-one}
 use Prim.Native.Nat.{ℕ, zero, suc, _+_, _≤_, _<_}
-use mathlib.Core.Path.{_≡_, refl, _∙_, ap}
-use mathlib.Core.Bool.{true, false, _&&_, and-false}
+use mathlib.Core.Path.{_≡_, refl, _∙_, ap, ap₂}
+use mathlib.Core.Bool.{Bool, true, false, _&&_, and-false, false≢true}
 use mathlib.Core.List.{List, [], _∷_}
 use lib.ListN.{length, drop, getD}
 use lib.Seq.{drop-cons}
 use lib.Dec.{eqb}
-use borrow.Author.Tests.{eq-eqb, ne-eqb}
+use borrow.Author.Tests.{eqb-true, eq-eqb, ne-eqb}
 use Rattle.objects.specs.Payload.{equal}
 
 pub other-length : (a b : List ℕ) → (length a ≡ length b → ⊥) → equal a b ≡ false
@@ -37,3 +37,19 @@ whole [] (y ∷ b) i h e = absurd (omega arith)
 whole (x ∷ a) [] i h e = absurd (omega arith)
 whole (x ∷ a) (y ∷ b) zero h e = absurd (omega arith)
 whole (x ∷ a) (y ∷ b) (suc i) h e = whole a b i (omega arith) (omega arith)
+
+pub equal-refl : (xs : List ℕ) → equal xs xs ≡ true
+unfolding equal
+equal-refl [] = refl
+equal-refl (x ∷ xs) = rw (eq-eqb x x refl) (equal-refl xs)
+
+pub equal-is : (xs ys : List ℕ) → equal xs ys ≡ true → xs ≡ ys
+unfolding equal
+equal-is [] [] e = refl
+equal-is [] (y ∷ ys) e = absurd (false≢true e)
+equal-is (x ∷ xs) [] e = absurd (false≢true e)
+equal-is (x ∷ xs) (y ∷ ys) e = go (eqb x y) refl e (λ r. equal-is xs ys r)
+  where
+    go : (c : Bool) → eqb x y ≡ c → (c && equal xs ys) ≡ true → (equal xs ys ≡ true → xs ≡ ys) → x ∷ xs ≡ y ∷ ys
+    go true q r more = ap₂ (λ (a : ℕ) (l : List ℕ). a ∷ l) (eqb-true x y q) (more r)
+    go false q r more = absurd (false≢true r)

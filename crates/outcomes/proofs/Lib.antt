@@ -5,6 +5,7 @@ pub mod Objects
 pub mod Writer
 pub mod Blocks
 pub mod Collector
+pub mod Moving
 pub mod Powercut
 pub mod Crossing
 pub mod Cface

@@ -2,10 +2,7 @@
 use mathlib.Core.Path.{_≡_, sym, _∙_}
 use denote.Ref.{now}
 use Rattle.outcomes.proofs.One.{One}
-use Rattle.outcomes.proofs.Answers.{allocated-one, counted-one, headed-one, writing-one, wrote-one}
-use Rattle.writer.proofs.moving.SourceRead.number.Reads as moving-SourceRead-number
-use Rattle.writer.proofs.moving.copy_object.Reads as moving-copy-object
-use Rattle.writer.proofs.moving.move_object.Reads as moving-move-object
+use Rattle.outcomes.proofs.Answers.{allocated-one, counted-one, writing-one, wrote-one}
 use Rattle.writer.proofs.writer.ObjectWriter.allocate.Reads as writer-ObjectWriter-allocate
 use Rattle.writer.proofs.writer.ObjectWriter.write.Reads as writer-ObjectWriter-write
 use Rattle.writer.proofs.writer.ObjectWriter.finalize.Reads as writer-ObjectWriter-finalize
@@ -14,15 +11,6 @@ use Rattle.writer.proofs.writer.ObjectWriter.write_to.Reads as writer-ObjectWri
 use Rattle.writer.proofs.writer.ObjectWriter.space.Reads as writer-ObjectWriter-space
 use Rattle.writer.proofs.writer.ObjectWriter.payload_size.Reads as writer-ObjectWriter-payload-size
 use Rattle.writer.proofs.writer.ObjectWriter.total_size.Reads as writer-ObjectWriter-total-size
-
-pub moving-SourceRead-number-one : One moving-SourceRead-number.Post (λ _ r e r′ e′. r ≡ r′)
-moving-SourceRead-number-one _ _ r r′ e e′ p q = p ∙ sym q
-
-pub moving-copy-object-one : One moving-copy-object.Post (λ _ r e r′ e′. (r ≡ r′) × (now (e .1 .0) ≡ now (e′ .1 .0)))
-moving-copy-object-one _ _ r r′ e e′ p q = headed-one r r′ _ _ _ _ (p .0) (q .0) (p .1) (q .1)
-
-pub moving-move-object-one : One moving-move-object.Post (λ _ r e r′ e′. (r ≡ r′) × (now (e .1 .0) ≡ now (e′ .1 .0)))
-moving-move-object-one _ _ r r′ e e′ p q = headed-one r r′ _ _ _ _ (p .0) (q .0) (p .1) (q .1)
 
 pub writer-ObjectWriter-allocate-one : One writer-ObjectWriter-allocate.Post (λ _ r e r′ e′. (r ≡ r′) × (now (e .1 .0) ≡ now (e′ .1 .0)))
 writer-ObjectWriter-allocate-one _ _ r r′ e e′ p q = allocated-one r r′ _ _ _ _ (p .0) (q .0) (p .1) (q .1)

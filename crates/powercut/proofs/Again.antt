@@ -16,7 +16,7 @@ use Rattle.medium.specs.declared.fuse.Fuse.the-variants.{Absent, Units}
 use Rattle.medium.specs.Granularity.{widthOf, finishAt, deleteAt, finishMark, sizeAt, header}
 use Rattle.medium.specs.Geometry.{checkOf}
 use Rattle.medium.specs.Units.{FlashUnit}
-use Rattle.medium.specs.Operation.{flash, apply, done, refused, End, next, cut, run, _>>=_, _>>_, ask, give}
+use Rattle.medium.specs.Operation.{flash, apply, done, refused, End, next, run, _>>=_, _>>_, ask, give}
 use Rattle.medium.specs.Medium.{write}
 use Rattle.objects.specs.declared.types.ObjectType.{ObjectType}
 use Rattle.objects.specs.declared.state.ObjectDataState.the-variants.{Untrusted, Valid, Deleted}
@@ -30,7 +30,7 @@ use Rattle.objects.specs.Header.{stateAt, allocatableOf, setState}
 use Rattle.objects.specs.Payload.{payloadAt}
 use Rattle.writer.specs.declared.writer.ObjectWriter.{ObjectWriter}
 use Rattle.writer.specs.Writer.{freshOf, allocate, finalize}
-use Rattle.writer.specs.Moving.{sourceAt, turnsOf, copying, copyObject, moveObject}
+use Rattle.moving.specs.Moving.{sourceAt, turnsOf, copying, copyObject, moveObject}
 use Rattle.powercut.specs.Demand.{addressOf, payloadIn, copyOf, unitsTo}
 use Rattle.powercut.specs.Stores.{typeUnits, payUnits, sizeUnits, markUnits, deleteUnits, before}
 use Rattle.powercut.specs.Again.{leftBy, goneOf, Resumes, Completes, Again}

@@ -15,7 +15,7 @@ use Rattle.objects.specs.declared.types.ObjectType.{ObjectType}
 use Rattle.objects.specs.declared.location.ObjectLocation.{ObjectLocation}
 use Rattle.objects.specs.declared.header.ObjectHeader.{ObjectHeader}
 use Rattle.objects.specs.Reader.{readerAt}
-use Rattle.writer.specs.Moving.{copyObject, moveObject}
+use Rattle.moving.specs.Moving.{copyObject, moveObject}
 use Rattle.powercut.specs.Demand.{readerOf, Whole, Unfinished, addressOf, payloadIn, copyOf, Clear, unitsTo, Survives, Demand}
 use Rattle.powercut.specs.Answers.{NeverGone, TwoOnce, Kept, Copied, CopiedWhole, CopyKeeps}
 use Rattle.medium.proofs.Runs.{prefix-flash, cost-flash, leb-is, leb-yes, leb-no}

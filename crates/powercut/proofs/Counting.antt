@@ -21,7 +21,7 @@ use Rattle.objects.specs.Reader as reader
 use Rattle.objects.specs.Reader.{readerAt, readSome}
 use Rattle.objects.specs.Listing.{placed, Visit, Listing, listFrom}
 use Rattle.powercut.specs.Demand.{readerOf}
-use Rattle.powercut.specs.Listed.{payloadRead, isFinished, isPayload, isCopy, countIn}
+use Rattle.powercut.specs.Listed.{payloadRead, finishedAs, isPayload, isCopy, countIn}
 use Rattle.medium.proofs.Runs.{leb-is}
 use Rattle.medium.proofs.Places.{laid}
 use Rattle.shown.proofs.Reading.{header-back, headerOf}
@@ -75,7 +75,7 @@ module _ (g : Geometry) (b : ℕ) (img last : List ℕ) (fine : checkOf g (lengt
   copy-same t pay o e h i r f =
       let k : headerAt g (place g b o) img ≡ done h = info-back g b o img h i in
       let at : h ≡ headerOf (h .state) (h .size) (place g b o) = ap (λ (x : ObjectLocation). headerOf (h .state) (h .size) x) (header-back g (place g b o) img h k .located) in
-      ap (λ (x : Answer (List ℕ)). isFinished (h .state) t && isPayload x pay)
+      ap (λ (x : Answer (List ℕ)). finishedAs (h .state) t && isPayload x pay)
       (payload-same o e (h .state) (h .size) (k ∙ ap done at) r f)
 
   -- so does a walk

@@ -26,9 +26,9 @@ use Rattle.medium.proofs.Bytes.{ff-and, Off, Misses, All-append, All-take, fram
 use Rattle.medium.proofs.Programs.{pad-kept}
 use Rattle.medium.proofs.Frame.{part-same}
 use Rattle.medium.proofs.Places.{Laid, laid}
-use Rattle.objects.proofs.Numbers.{length-bytes}
+use Rattle.objects.proofs.Numbers.{length-bytes, byte-bytes}
 use Rattle.powercut.proofs.Places.{span, far-from}
-use Rattle.shown.proofs.Reading.{stateSeen, sizeSeen, Stands, type-small, Shown, shown, seen-object, seen-free, blank-marks, mark-valid, mark-deleted, stands-same, byte-bytes, size-says}
+use Rattle.shown.proofs.Reading.{stateSeen, sizeSeen, Stands, type-small, Shown, shown, seen-object, seen-free, blank-marks, mark-valid, mark-deleted, stands-same, size-says}
 
 -- ---- a byte clear of an interval
 

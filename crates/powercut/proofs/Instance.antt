@@ -2,18 +2,17 @@
 use mathlib.Core.Path.{_≡_, refl, sym, ap, _∙_}
 use mathlib.Core.Logic.{inl}
 use mathlib.Core.Bool.{Bool, true, false, _&&_}
-use mathlib.Core.List.{List, [], _∷_, _++_}
+use mathlib.Core.List.{List, [], _∷_}
 use Prim.Native.Nat.{ℕ, zero, suc, _+_, _-_, _≤_, _<_}
 use native.Mathlib.Omega.{arith}
-use lib.ListN.{length, getD, replicate, getD-replicate}
+use lib.ListN.{getD, replicate, getD-replicate}
 use lib.Dec.{T, ltb, ltb→lt, lit<, lit≤}
 use lib.Pow.{areBytes}
-use Rattle.medium.specs.declared.granularity.Granularity.{Granularity}
 use Rattle.medium.specs.declared.granularity.Granularity.the-variants.{Bit, Word1, Word4}
-use Rattle.medium.specs.declared.geometry.Geometry.{Geometry}
 use Rattle.medium.specs.declared.fuse.Fuse.the-variants.{Absent, Units}
 use Rattle.medium.specs.Geometry.{geometryOk, admit}
 use Rattle.medium.specs.Operation.{_>>=_, ask, test, putting, run}
+use Rattle.medium.specs.Bench.{four, holding}
 use Rattle.medium.specs.Medium.{part, readable, writable, readAt, write}
 use Rattle.objects.specs.declared.types.ObjectType.the-variants.{FileData}
 use Rattle.objects.specs.declared.state.ObjectDataState.the-variants.{Valid}
@@ -23,10 +22,11 @@ use Rattle.objects.specs.declared.header.ObjectHeader.{ObjectHeader}
 use Rattle.objects.specs.Types.{typeOf, markOf, pairOf, marksOf, stateIn}
 use Rattle.objects.specs.Header.{stateAt, sizedAt, headerAt, payloadOf, allocatableOf, marking, setState, sizableOf, setPayloadSize}
 use Rattle.objects.specs.Info.{infoAt, totalOf}
+use Rattle.objects.specs.Payload.{equal}
 use Rattle.objects.specs.Reader.{readerAt, remainingOf, leftOf, readSome}
 use Rattle.objects.specs.Listing.{nextOf, listFrom, listing}
-use Rattle.writer.specs.Writer.{soundOf, allocate, appendable, putBytes, append, finishable, flush, close, finalize}
-use Rattle.writer.specs.Moving.{sourceAt, chunk, copying, copyObject, moveObject}
+use Rattle.writer.specs.Writer.{soundOf, allocate, mayWrite, putBytes, writeSome, mayFinish, flush, close, finalize}
+use Rattle.moving.specs.Moving.{sourceAt, chunk, copying, copyObject, moveObject}
 use Rattle.powercut.specs.Demand.{payloadIn, Movable, unitsTo, Survives, Demand}
 use Rattle.powercut.specs.Listed.{payloadRead, isCopy, Listable, copiesBefore, copiesAfter, Counted, Listings}
 use Rattle.medium.proofs.Bytes.{getD-part}
@@ -53,28 +53,22 @@ blank-by a n img e i h = sym (getD-part a n img i 0 h) ∙ ap (λ (bs : List ℕ
 
 -- ---- A, C and B with the object of rows 1, 2 and 3
 
-abbrev geometry : Granularity → Geometry
-geometry k = record { granularity = k; s = 1; c = 1; size = 256; count = 4 }
-
 abbrev place : ℕ → ℕ → ObjectLocation
 place b o = record { block = b; offset = o }
-
-abbrev holding : ℕ → List ℕ → List ℕ
-holding at bs = replicate at 255 ++ bs ++ replicate (1024 - (at + length bs)) 255
 
 abbrev object : ℕ → ObjectHeader
 object at = record { state = Allocated FileData Valid; size = 3; location = place 0 at }
 
 abbrev imageA : List ℕ
-imageA = holding 8 (0x8E ∷ 0xF0 ∷ 0x03 ∷ 0x41 ∷ 0x42 ∷ 0x43 ∷ [])
+imageA = holding 1024 8 (0x8E ∷ 0xF0 ∷ 0x03 ∷ 0x41 ∷ 0x42 ∷ 0x43 ∷ [])
 
 abbrev imageC : List ℕ
-imageC = holding 8 (0x8E ∷ 0x00 ∷ 0xFF ∷ 0x03 ∷ 0x41 ∷ 0x42 ∷ 0x43 ∷ [])
+imageC = holding 1024 8 (0x8E ∷ 0x00 ∷ 0xFF ∷ 0x03 ∷ 0x41 ∷ 0x42 ∷ 0x43 ∷ [])
 
 abbrev imageB : List ℕ
-imageB = holding 12 (0x8E ∷ 0xFF ∷ 0xFF ∷ 0xFF ∷ 0x00 ∷ 0xFF ∷ 0xFF ∷ 0xFF ∷ 0xFF ∷ 0xFF ∷ 0xFF ∷ 0xFF ∷ 0x03 ∷ 0xFF ∷ 0xFF ∷ 0xFF ∷ 0x41 ∷ 0x42 ∷ 0x43 ∷ 0xFF ∷ [])
+imageB = holding 1024 12 (0x8E ∷ 0xFF ∷ 0xFF ∷ 0xFF ∷ 0x00 ∷ 0xFF ∷ 0xFF ∷ 0xFF ∷ 0xFF ∷ 0xFF ∷ 0xFF ∷ 0xFF ∷ 0x03 ∷ 0xFF ∷ 0xFF ∷ 0xFF ∷ 0x41 ∷ 0x42 ∷ 0x43 ∷ 0xFF ∷ [])
 
-pub movable-bit : Movable (geometry Bit) (object 8) (place 2 8) 6 FileData imageA
+pub movable-bit : Movable (four Bit) (object 8) (place 2 8) 6 FileData imageA
 unfolding geometryOk admit readable readAt typeOf markOf marksOf stateIn stateAt sizedAt headerAt payloadOf totalOf
 movable-bit =
     record {
@@ -92,7 +86,7 @@ movable-bit =
       apart = inl (lit≤ tt);
     }
 
-pub movable-byte : Movable (geometry Word1) (object 8) (place 2 8) 7 FileData imageC
+pub movable-byte : Movable (four Word1) (object 8) (place 2 8) 7 FileData imageC
 unfolding geometryOk admit readable readAt typeOf pairOf marksOf stateIn stateAt sizedAt headerAt payloadOf totalOf
 movable-byte =
     record {
@@ -110,7 +104,7 @@ movable-byte =
       apart = inl (lit≤ tt);
     }
 
-pub movable-word : Movable (geometry Word4) (object 12) (place 2 12) 20 FileData imageB
+pub movable-word : Movable (four Word4) (object 12) (place 2 12) 20 FileData imageB
 unfolding geometryOk admit readable readAt typeOf pairOf marksOf stateIn stateAt sizedAt headerAt payloadOf totalOf
 movable-word =
     record {
@@ -130,7 +124,7 @@ movable-word =
 
 -- ---- the same object moved back into its own block, right behind itself
 
-pub movable-behind : Movable (geometry Bit) (object 8) (place 0 14) 242 FileData imageA
+pub movable-behind : Movable (four Bit) (object 8) (place 0 14) 242 FileData imageA
 unfolding geometryOk admit readable readAt typeOf markOf marksOf stateIn stateAt sizedAt headerAt payloadOf totalOf
 movable-behind =
     record {
@@ -149,21 +143,21 @@ movable-behind =
     }
 
 -- row 11: "fuse 5 original only, 6 both, 7 copy only"
-pub row-eleven-units : unitsTo (geometry Bit) (object 8) ≡ 5
+pub row-eleven-units : unitsTo (four Bit) (object 8) ≡ 5
 unfolding payloadOf
 row-eleven-units = refl
 
-pub row-eleven-payload : payloadIn (geometry Bit) (object 8) imageA ≡ 0x41 ∷ 0x42 ∷ 0x43 ∷ []
+pub row-eleven-payload : payloadIn (four Bit) (object 8) imageA ≡ 0x41 ∷ 0x42 ∷ 0x43 ∷ []
 unfolding payloadOf
 row-eleven-payload = refl
 
-pub row-eleven : (k : ℕ) → Survives (geometry Bit) (object 8) (place 2 8) FileData (payloadIn (geometry Bit) (object 8) imageA) imageA k (run (Units k) (moveObject (geometry Bit) (object 8) (place 2 8)) imageA)
+pub row-eleven : (k : ℕ) → Survives (four Bit) (object 8) (place 2 8) FileData (payloadIn (four Bit) (object 8) imageA) imageA k (run (Units k) (moveObject (four Bit) (object 8) (place 2 8)) imageA)
 unfolding Demand
-row-eleven k = demand (geometry Bit) (object 8) (place 2 8) 6 FileData imageA movable-bit .1 k
+row-eleven k = demand (four Bit) (object 8) (place 2 8) 6 FileData imageA movable-bit .1 k
 
 -- ---- listings: row 11's object in block 0, and the rest of block 2 as its destination; or the rest of its own block
 
-pub movable-end : Movable (geometry Bit) (object 8) (place 2 8) 248 FileData imageA
+pub movable-end : Movable (four Bit) (object 8) (place 2 8) 248 FileData imageA
 unfolding geometryOk admit readable readAt typeOf markOf marksOf stateIn stateAt sizedAt headerAt payloadOf totalOf
 movable-end =
     record {
@@ -181,7 +175,7 @@ movable-end =
       apart = inl (lit≤ tt);
     }
 
-pub listable-end : Listable (geometry Bit) (object 8) (place 2 8) 248 imageA
+pub listable-end : Listable (four Bit) (object 8) (place 2 8) 248 imageA
 unfolding geometryOk admit readable readAt typeOf markOf marksOf stateIn stateAt sizedAt headerAt payloadOf totalOf infoAt nextOf listFrom listing
 listable-end =
     record {
@@ -191,7 +185,7 @@ listable-end =
       stop = refl;
     }
 
-pub listable-behind : Listable (geometry Bit) (object 8) (place 0 14) 242 imageA
+pub listable-behind : Listable (four Bit) (object 8) (place 0 14) 242 imageA
 unfolding geometryOk admit readable readAt typeOf markOf marksOf stateIn stateAt sizedAt headerAt payloadOf totalOf infoAt nextOf listFrom listing
 listable-behind =
     record {
@@ -202,23 +196,23 @@ listable-behind =
     }
 
 -- one before the move, so that the listings show 1, 2 and 1
-pub row-eleven-copies : copiesBefore (geometry Bit) (object 8) (place 2 8) FileData imageA ≡ 1
-unfolding geometryOk admit readable readAt typeOf markOf marksOf stateIn stateAt sizedAt headerAt payloadOf totalOf infoAt nextOf listFrom listing readerAt remainingOf leftOf readSome payloadRead isCopy
+pub row-eleven-copies : copiesBefore (four Bit) (object 8) (place 2 8) FileData imageA ≡ 1
+unfolding geometryOk admit readable readAt typeOf markOf marksOf stateIn stateAt sizedAt headerAt payloadOf totalOf infoAt nextOf listFrom listing readerAt remainingOf leftOf readSome equal payloadRead isCopy
 row-eleven-copies = refl
 
-pub row-eleven-counted : Counted (geometry Bit) (object 8) (place 2 8) FileData imageA
+pub row-eleven-counted : Counted (four Bit) (object 8) (place 2 8) FileData imageA
 unfolding Listings
-row-eleven-counted = listings (geometry Bit) (object 8) (place 2 8) 248 FileData imageA movable-end listable-end
+row-eleven-counted = listings (four Bit) (object 8) (place 2 8) 248 FileData imageA movable-end listable-end
 
 -- ---- why a header has to fit behind: an empty object that is moved to end with its block reads whole there, and no listing shows it any more
 
 abbrev imageEmpty : List ℕ
-imageEmpty = holding 8 (0x8E ∷ 0xF0 ∷ 0x00 ∷ [])
+imageEmpty = holding 1024 8 (0x8E ∷ 0xF0 ∷ 0x00 ∷ [])
 
 abbrev empty : ObjectHeader
 empty = record { state = Allocated FileData Valid; size = 0; location = place 0 8 }
 
-pub movable-last : Movable (geometry Bit) empty (place 2 253) 3 FileData imageEmpty
+pub movable-last : Movable (four Bit) empty (place 2 253) 3 FileData imageEmpty
 unfolding geometryOk admit readable readAt typeOf markOf marksOf stateIn stateAt sizedAt headerAt payloadOf totalOf
 movable-last =
     record {
@@ -236,6 +230,6 @@ movable-last =
       apart = inl (lit≤ tt);
     }
 
-pub not-listed : (copiesBefore (geometry Bit) empty (place 2 253) FileData imageEmpty ≡ 1) × (copiesAfter (geometry Bit) empty (place 2 253) FileData imageEmpty Absent ≡ 0)
-unfolding geometryOk admit _>>=_ ask test putting run readable writable readAt write typeOf markOf marksOf stateIn stateAt sizedAt headerAt payloadOf totalOf allocatableOf marking setState sizableOf setPayloadSize infoAt nextOf listFrom listing readerAt remainingOf leftOf readSome soundOf allocate appendable putBytes append finishable flush close finalize sourceAt chunk copying copyObject moveObject payloadRead isCopy
+pub not-listed : (copiesBefore (four Bit) empty (place 2 253) FileData imageEmpty ≡ 1) × (copiesAfter (four Bit) empty (place 2 253) FileData imageEmpty Absent ≡ 0)
+unfolding geometryOk admit _>>=_ ask test putting run readable writable readAt write typeOf markOf marksOf stateIn stateAt sizedAt headerAt payloadOf totalOf allocatableOf marking setState sizableOf setPayloadSize infoAt nextOf listFrom listing readerAt remainingOf leftOf readSome soundOf allocate mayWrite putBytes writeSome mayFinish flush close finalize sourceAt chunk copying copyObject moveObject equal payloadRead isCopy
 not-listed = (refl, refl)

@@ -24,15 +24,17 @@ use Rattle.objects.specs.declared.location.ObjectLocation.{ObjectLocation}
 use Rattle.objects.specs.declared.header.ObjectHeader.{ObjectHeader}
 use Rattle.objects.specs.Types.{typeByte}
 use Rattle.objects.specs.Header.{payloadOf}
+use Rattle.objects.specs.Payload.{equal}
 use Rattle.objects.specs.Info.{found, none, infoAt, totalOf, spanOf}
 use Rattle.objects.specs.Listing.{placed, Met, nextIn, nextOf, Visit, listBy, listFrom, listing}
-use Rattle.writer.specs.Moving.{moveObject}
+use Rattle.moving.specs.Moving.{moveObject}
 use Rattle.powercut.specs.Demand.{Whole, Unfinished, Gone, addressOf, payloadIn, copyOf, Clear, Movable, unitsTo, Framed, Survives, Moved, Demand}
-use Rattle.powercut.specs.Listed.{same, payloadRead, isCopy, countIn, copiesIn, copies, Listable, copiesAfter, copiesBefore, Counted, Listings}
+use Rattle.powercut.specs.Listed.{payloadRead, isCopy, countIn, copiesIn, copies, Listable, copiesAfter, copiesBefore, Counted, Listings}
 use Rattle.medium.proofs.Runs.{leb-is}
 use Rattle.medium.proofs.Bytes.{getD-part}
 use Rattle.medium.proofs.Places.{Laid, laid}
 use Rattle.medium.proofs.Checks.{within}
+use Rattle.objects.proofs.Equal.{equal-refl}
 use Rattle.shown.proofs.Reading.{seen-free, header-read}
 use Rattle.powercut.specs.Stores.{before}
 use Rattle.medium.proofs.Traced.{state-cut}
@@ -51,17 +53,13 @@ count-append g b t pay m (x ∷ xs) ys =
     ap (λ (n : ℕ). pick (isCopy g b t pay m x) 1 0 + n) (count-append g b t pay m xs ys)
     ∙ sym (add-assoc (pick (isCopy g b t pay m x) 1 0) (countIn g b t pay m xs) (countIn g b t pay m ys))
 
-same-refl : (xs : List ℕ) → same xs xs ≡ true
-same-refl [] = refl
-same-refl (x ∷ xs) = rw (eq-eqb x x refl) (same-refl xs)
-
 -- an object that reads whole counts
 whole-counts : (g : Geometry) (h : ObjectHeader) (t : ObjectType) (pay m : List ℕ) → length pay ≤ 65536 → Whole g h t pay m
     → isCopy g (h .location .block) t pay m (record { offset = h .location .offset; object = h }) ≡ true
 unfolding isCopy payloadRead
 whole-counts g h t pay m small w =
     let all : part 0 65536 pay ≡ pay = take-all 65536 pay small in
-    rw (w .finished, eq-eqb (typeByte t) (typeByte t) refl, w .reader, w .reads 0 65536 (omega arith)) (ap (λ (bs : List ℕ). same bs pay) all ∙ same-refl pay)
+    rw (w .finished, eq-eqb (typeByte t) (typeByte t) refl, w .reader, w .reads 0 65536 (omega arith)) (ap (λ (bs : List ℕ). equal bs pay) all ∙ equal-refl pay)
 
 gone-counts : (g : Geometry) (b o size : ℕ) (at : ObjectLocation) (t : ObjectType) (pay m : List ℕ)
     → isCopy g b t pay m (record { offset = o; object = record { state = Allocated t Deleted; size = size; location = at } }) ≡ false

@@ -10,7 +10,7 @@ use native.Mathlib.Omega.{arith}
 use lib.ListN.{length, take, getD}
 use lib.Seq.{take-nil}
 use lib.Dec.{eqb}
-use borrow.Author.Tests.{le-leb, eqb-true}
+use borrow.Author.Tests.{le-leb}
 use Rattle.medium.specs.declared.granularity.Granularity.{Granularity}
 use Rattle.medium.specs.declared.geometry.Geometry.{Geometry}
 use Rattle.medium.specs.Granularity.{pick, widthOf, sizeAt, header}
@@ -27,16 +27,18 @@ use Rattle.objects.specs.declared.header.ObjectHeader.{ObjectHeader}
 use Rattle.objects.specs.declared.iterator.ObjectIterator.{ObjectIterator}
 use Rattle.objects.specs.Types.{typeByte}
 use Rattle.objects.specs.Header.{headerAt, payloadOf}
+use Rattle.objects.specs.Payload.{equal}
 use Rattle.objects.specs.Info.{Info, found, none, infoAt}
 use Rattle.objects.specs.Reader.{Chunk, readerAt, remainingOf, leftOf, readSome}
 use Rattle.objects.specs.Listing.{placed, Met, object, freePlace, blockEnd, nextOf, listBy, listFrom}
 use Rattle.powercut.specs.Demand.{readerOf}
-use Rattle.powercut.specs.Listed.{same, payloadRead, isPayload, isCopy, countIn}
+use Rattle.powercut.specs.Listed.{payloadRead, isPayload, isCopy, countIn}
 use Rattle.medium.proofs.Runs.{apply-append}
 use Rattle.medium.proofs.Bytes.{Misses, All-take, frame, length-apply, getD-part, length-part}
 use Rattle.medium.proofs.Programs.{Partly, partly}
 use Rattle.medium.proofs.Places.{Laid, laid}
 use Rattle.medium.proofs.Checks.{within, fine-of-check}
+use Rattle.objects.proofs.Equal.{equal-is}
 use Rattle.shown.proofs.Reading.{seen-free, Got, read-back, header-back, header-read, headerOf}
 use Rattle.powercut.specs.Stores.{typeUnits, payUnits, sizeUnits, before}
 use Rattle.powercut.proofs.Crash.{Given, type-clear, size-clear}
@@ -93,16 +95,6 @@ module _ (pay : List ℕ) (X : ℕ → ℕ) (d end : ℕ) (hd : 0 < d) (some : (
       go (inl e) = e
       go (inr e) = e .1 ∙ all-blank (length pay) j (omega arith) (e .0)
 
-same-is : (xs ys : List ℕ) → same xs ys ≡ true → xs ≡ ys
-same-is [] [] e = refl
-same-is [] (y ∷ ys) e = let z : _≡_ {A = ℕ} 0 1 = cc in absurd (omega arith)
-same-is (x ∷ xs) [] e = let z : _≡_ {A = ℕ} 0 1 = cc in absurd (omega arith)
-same-is (x ∷ xs) (y ∷ ys) e = go (eqb x y) refl e (λ r. same-is xs ys r)
-  where
-    go : (c : Bool) → eqb x y ≡ c → (c && same xs ys) ≡ true → (same xs ys ≡ true → xs ≡ ys) → x ∷ xs ≡ y ∷ ys
-    go true q r rec = ap₂ (λ (a : ℕ) (l : List ℕ). a ∷ l) (eqb-true x y q) (rec r)
-    go false q r rec = let z : _≡_ {A = ℕ} 0 1 = cc in absurd (omega arith)
-
 module _ (g : Geometry) (b : ℕ) (m : List ℕ) (fine : checkOf g (length m) ≡ 0) (hb : b < g .count) (t : ObjectType) (pay : List ℕ) where
   -- one read gives the payload of a finished object
   pub read-forward : (o : ℕ) (u : ObjectType) (size : ℕ) → headerAt g (place g b o) m ≡ done (headerOf (Allocated u Valid) size (place g b o))
@@ -155,13 +147,13 @@ module _ (g : Geometry) (b : ℕ) (m : List ℕ) (fine : checkOf g (length m) �
         ∙ go (readAt g b (o + header (g .granularity) (g .s) + 0) (min 65536 (payloadOf (g .s) (headerOf (Allocated u Valid) size (place g b o)) - 0)) m) refl
       where
         same-no : (bs : List ℕ) → readAt g b (o + header (g .granularity) (g .s) + 0) (min 65536 (payloadOf (g .s) (headerOf (Allocated u Valid) size (place g b o)) - 0)) m ≡ done bs
-            → (x : Bool) → same bs pay ≡ x → x ≡ false
-        same-no bs r true e = absurd (no-such o _ (headerOf (Allocated u Valid) size (place g b o)) bs ho info ho2 r (same-is bs pay e))
+            → (x : Bool) → equal bs pay ≡ x → x ≡ false
+        same-no bs r true e = absurd (no-such o _ (headerOf (Allocated u Valid) size (place g b o)) bs ho info ho2 r (equal-is bs pay e))
         same-no bs r false e = refl
 
         go : (a : Answer (List ℕ)) → readAt g b (o + header (g .granularity) (g .s) + 0) (min 65536 (payloadOf (g .s) (headerOf (Allocated u Valid) size (place g b o)) - 0)) m ≡ a
             → (eqb (typeByte u) (typeByte t) && isPayload (andThen a (λ bs. done bs)) pay) ≡ false
-        go (done bs) r = ap (λ (x : Bool). eqb (typeByte u) (typeByte t) && x) (same-no bs r (same bs pay) refl) ∙ and-false (eqb (typeByte u) (typeByte t))
+        go (done bs) r = ap (λ (x : Bool). eqb (typeByte u) (typeByte t) && x) (same-no bs r (equal bs pay) refl) ∙ and-false (eqb (typeByte u) (typeByte t))
         go (refused n) r = and-false (eqb (typeByte u) (typeByte t))
 
     pub none-behind : (n o : ℕ) → to + header (g .granularity) (g .s) ≤ o → countIn g b t pay m (listFrom n g (placed b o) m .visits) ≡ 0

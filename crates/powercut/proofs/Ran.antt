@@ -29,8 +29,8 @@ use Rattle.objects.specs.Types.{typeByte}
 use Rattle.objects.specs.Header.{stateAt, headerAt, payloadOf, allocatableOf, marking, stepTo, setState, sizableOf, withSize, setPayloadSize}
 use Rattle.objects.specs.Reader.{readerAt}
 use Rattle.writer.specs.declared.writer.ObjectWriter.{ObjectWriter}
-use Rattle.writer.specs.Writer.{noTail, withHeader, soundOf, allocate, appendable, pendingOf, wholeOf, tailOf, putBytes, append, finishable, flush, close, finalize}
-use Rattle.writer.specs.Moving.{sourceIn, sourceAt, chunk, turnsOf, copying, copyObject, moveObject}
+use Rattle.writer.specs.Writer.{noTail, withHeader, soundOf, allocate, mayWrite, pendingOf, wholeOf, tailOf, putBytes, writeSome, mayFinish, flush, close, finalize}
+use Rattle.moving.specs.Moving.{sourceIn, sourceAt, chunk, turnsOf, copying, copyObject, moveObject}
 use Rattle.medium.proofs.Runs.{leb-is}
 use Rattle.medium.proofs.Bytes.{length-part, frame, length-apply}
 use Rattle.medium.proofs.Frame.{part-same}
@@ -183,9 +183,9 @@ module _ (g : Geometry) (h : ObjectHeader) (to : ObjectLocation) (t : ObjectType
 
   -- ---- payload
 
-  append-test : (cur : ℕ) (tl c m : List ℕ) → length m ≡ length img → length tl < w → cur + length tl + length c ≤ length pay → appendable (writer cur tl) g (length m) (length c) ≡ 0
-  unfolding appendable
-  append-test cur tl c m e lt r =
+  some-test : (cur : ℕ) (tl c m : List ℕ) → length m ≡ length img → length tl < w → cur + length tl + length c ≤ length pay → mayWrite (writer cur tl) g (length m) (length c) ≡ 0
+  unfolding mayWrite
+  some-test cur tl c m e lt r =
       let n1 : to .offset + H + cur + length tl ≤ g .size = omega (arith, l, v .ready .in-block-to) in
       let n2 : to .offset + H + cur + length tl + length c ≤ g .size = omega (arith, l, v .ready .in-block-to) in
       let n3 : cur ≤ g .size = omega (arith, l, v .ready .in-block-to) in
@@ -194,10 +194,10 @@ module _ (g : Geometry) (h : ObjectHeader) (to : ObjectLocation) (t : ObjectType
   abbrev whole : List ℕ → List ℕ → ℕ
   whole tl c = length (tl ++ c) - length (tl ++ c) % w
 
-  append-ran : (cur : ℕ) (tl c m : List ℕ) → length m ≡ length img → length tl < w → cur + length tl + length c ≤ length pay → cur % w ≡ 0
-      → append g (writer cur tl) c m ≡ ran (unitsOf w (q + H + cur) (take (whole tl c) (tl ++ c))) (writer (cur + whole tl c) (drop (whole tl c) (tl ++ c)))
-  unfolding append putBytes
-  append-ran cur tl c m e lt r z =
+  some-ran : (cur : ℕ) (tl c m : List ℕ) → length m ≡ length img → length tl < w → cur + length tl + length c ≤ length pay → cur % w ≡ 0
+      → writeSome g (writer cur tl) c m ≡ ran (unitsOf w (q + H + cur) (take (whole tl c) (tl ++ c))) (writer (cur + whole tl c) (drop (whole tl c) (tl ++ c)))
+  unfolding writeSome putBytes
+  some-ran cur tl c m e lt r z =
       let wh : ℕ = whole tl c in
       let f : Floored (g .granularity) (length (tl ++ c)) = floored (g .granularity) (length (tl ++ c)) in
       let la : length (tl ++ c) ≡ length tl + length c = length-append tl c in
@@ -210,8 +210,8 @@ module _ (g : Geometry) (h : ObjectHeader) (to : ObjectLocation) (t : ObjectType
       let st : write g (to .block) (to .offset + H + cur) (take wh (tl ++ c)) m ≡ ran (unitsOf w (q + H + cur) (take wh (tl ++ c))) tt =
       ap (λ (i : ℕ). write g (to .block) i (take wh (tl ++ c)) m) ad ∙ put m (H + cur) (take wh (tl ++ c)) e even-at fits
       ∙ ap (λ (i : ℕ). ran (unitsOf w i (take wh (tl ++ c))) tt) aq in
-      tested (λ i. appendable (writer cur tl) g (length i) (length c)) (putBytes g (writer cur tl) (wholeOf w (length (pendingOf (writer cur tl) c))) (pendingOf (writer cur tl) c)) m
-      (unitsOf w (q + H + cur) (take wh (tl ++ c))) (writer (cur + wh) (drop wh (tl ++ c))) (append-test cur tl c m e lt r)
+      tested (λ i. mayWrite (writer cur tl) g (length i) (length c)) (putBytes g (writer cur tl) (wholeOf w (length (pendingOf (writer cur tl) c))) (pendingOf (writer cur tl) c)) m
+      (unitsOf w (q + H + cur) (take wh (tl ++ c))) (writer (cur + wh) (drop wh (tl ++ c))) (some-test cur tl c m e lt r)
       (ap (λ (x : List ℕ). putBytes g (writer cur tl) (wholeOf w (length (x ++ c))) (x ++ c) m) (tail-held tl n4)
       ∙ store-ran (write g (to .block) (to .offset + H + cur) (take wh (tl ++ c))) m (unitsOf w (q + H + cur) (take wh (tl ++ c))) (writer (cur + wh) (drop wh (tl ++ c))) st)
 
@@ -309,8 +309,8 @@ module _ (g : Geometry) (h : ObjectHeader) (to : ObjectLocation) (t : ObjectType
       → chunk g b from n (writer cur tl) m ≡ ran (unitsOf w (q + H + cur) (take (whole tl c) (tl ++ c))) (writer (cur + whole tl c) (drop (whole tl c) (tl ++ c)))
   unfolding chunk
   chunk-ran cur tl from n c m e r hc lt hl z =
-      asked (readAt g b from n) (λ bs. append g (writer cur tl) bs) m (unitsOf w (q + H + cur) (take (whole tl c) (tl ++ c))) c (writer (cur + whole tl c) (drop (whole tl c) (tl ++ c)))
-      (read-yes g b from n m (still m e) (v .ready .block) r ∙ ap done (sym hc)) (append-ran cur tl c m e lt hl z)
+      asked (readAt g b from n) (λ bs. writeSome g (writer cur tl) bs) m (unitsOf w (q + H + cur) (take (whole tl c) (tl ++ c))) c (writer (cur + whole tl c) (drop (whole tl c) (tl ++ c)))
+      (read-yes g b from n m (still m e) (v .ready .block) r ∙ ap done (sym hc)) (some-ran cur tl c m e lt hl z)
 
   -- one turn, from what the later turns leave; the chunk and the count are variables here, so that nothing is written out
   turn : (k cur : ℕ) (tl : List ℕ) (from rest : ℕ) (m : List ℕ) (n : ℕ) (c : List ℕ) → n ≡ min 16 rest → c ≡ part (address g b from) n m → c ≡ part (address g b from) n img
@@ -434,15 +434,15 @@ module _ (g : Geometry) (h : ObjectHeader) (to : ObjectLocation) (t : ObjectType
       (markUnits gr q) [] copy closed (mark-ran (length pay) (apply us (apply u m)) e2) (ask-ran (λ _. done closed) (apply (markUnits gr q) (apply us (apply u m))) closed refl)
       ∙ ap (λ (x : List FlashUnit). ran x closed) (append-nil (markUnits gr q))))
 
-  finish-test : (cur : ℕ) (tl m : List ℕ) → length m ≡ length img → length tl < w → cur ≤ g .size → finishable (writer cur tl) g (length m) ≡ 0
-  unfolding finishable
+  finish-test : (cur : ℕ) (tl m : List ℕ) → length m ≡ length img → length tl < w → cur ≤ g .size → mayFinish (writer cur tl) g (length m) ≡ 0
+  unfolding mayFinish
   finish-test cur tl m e lt c = rw (sound-ran cur tl m e lt c)
 
   finalize-ran : (cur : ℕ) (tl m : List ℕ) → length m ≡ length img → cur + length tl ≡ length pay → cur % w ≡ 0 → length tl < w
       → finalize g (writer cur tl) m ≡ ran (unitsOf w (q + H + cur) tl ++ closing) closed
   unfolding finalize
   finalize-ran cur tl m e total z lt =
-      tested (λ i. finishable (writer cur tl) g (length i)) (close g Valid (writer cur tl)) m (unitsOf w (q + H + cur) tl ++ closing) closed
+      tested (λ i. mayFinish (writer cur tl) g (length i)) (close g Valid (writer cur tl)) m (unitsOf w (q + H + cur) tl ++ closing) closed
       (finish-test cur tl m e lt (omega (arith, l, v .ready .in-block-to))) (close-ran cur tl m e total z lt)
 
   -- ---- the whole

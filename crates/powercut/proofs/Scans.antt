@@ -28,8 +28,8 @@ use Rattle.objects.specs.Numbers.{number, bytes, unsetOf}
 use Rattle.objects.specs.Types.{typeByte, typeOf}
 use Rattle.objects.specs.Header.{headerAt, payloadOf}
 use Rattle.objects.specs.Info.{found, none, infoAt, totalOf, spanOf}
-use Rattle.objects.specs.Listing.{placed, Visit, end, free, broken, Listing, listFrom, listing}
-use Rattle.writer.specs.Moving.{moveObject}
+use Rattle.objects.specs.Listing.{placed, Visit, broken, Listing, listFrom, listing}
+use Rattle.moving.specs.Moving.{moveObject}
 use Rattle.powercut.specs.Demand.{Whole, Gone, addressOf, payloadIn, copyOf, Clear, Movable, unitsTo, Framed, Survives, Demand}
 use Rattle.powercut.specs.Stores.{typeUnits, payUnits, sizeUnits, before}
 use Rattle.powercut.specs.Listed.{Listable}
@@ -41,9 +41,9 @@ use Rattle.medium.proofs.Frame.{other-block}
 use Rattle.medium.proofs.Places.{Laid, laid, width-is, align-even, align-least, even-align}
 use Rattle.powercut.proofs.Places.{span}
 use Rattle.medium.proofs.Programs.{cut-stored, Partly, partly}
-use Rattle.shown.proofs.Reading.{stateSeen, sizeSeen, byte-bytes, unset-is, size-says, state-read, headerOf, header-read, header-back}
+use Rattle.shown.proofs.Reading.{stateSeen, sizeSeen, unset-is, size-says, state-read, headerOf, header-read, header-back}
 use Rattle.shown.proofs.Agreeing.{agree-of}
-use Rattle.objects.proofs.Numbers.{length-bytes}
+use Rattle.objects.proofs.Numbers.{length-bytes, byte-bytes}
 use Rattle.powercut.proofs.Crash.{Given, one-long, type-clear, pay-clear, size-clear, pay-byte, copy-begun, copy-between, framed-copied}
 use Rattle.powercut.proofs.Ran.{Ready}
 use Rattle.powercut.proofs.Survive.{N, us, all-copied, cut-before, cut-copied, cut-between, copy-whole, span-is, units-are, apart-plain, ready, demand}

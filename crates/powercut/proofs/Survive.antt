@@ -24,7 +24,7 @@ use Rattle.objects.specs.Numbers.{bytes, unsetOf}
 use Rattle.objects.specs.Types.{typeByte}
 use Rattle.objects.specs.Header.{payloadOf}
 use Rattle.objects.specs.Info.{totalOf, spanOf}
-use Rattle.writer.specs.Moving.{moveObject}
+use Rattle.moving.specs.Moving.{moveObject}
 use Rattle.powercut.specs.Demand.{Whole, Unfinished, Gone, addressOf, payloadIn, copyOf, Clear, Movable, unitsBefore, unitsTo, Framed, Survives, Moved, Demand}
 use Rattle.objects.proofs.Numbers.{length-bytes}
 use Rattle.medium.proofs.Runs.{prefix-flash, cost-flash, leb-is, leb-yes, leb-no}

@@ -15,7 +15,7 @@ use Rattle.objects.specs.declared.state.CompositeObjectState.the-variants.{Allo
 use Rattle.objects.specs.declared.location.ObjectLocation.{ObjectLocation}
 use Rattle.objects.specs.declared.header.ObjectHeader.{ObjectHeader}
 use Rattle.objects.specs.Header.{setState}
-use Rattle.writer.specs.Moving.{moveObject}
+use Rattle.moving.specs.Moving.{moveObject}
 use Rattle.powercut.specs.Demand.{Movable, unitsTo}
 
 -- the image that a move leaves when it is cut after k units

@@ -12,7 +12,7 @@ use Rattle.objects.specs.declared.types.ObjectType.{ObjectType}
 use Rattle.objects.specs.declared.location.ObjectLocation.{ObjectLocation}
 use Rattle.objects.specs.declared.header.ObjectHeader.{ObjectHeader}
 use Rattle.objects.specs.Info.{spanOf}
-use Rattle.writer.specs.Moving.{copyObject, moveObject}
+use Rattle.moving.specs.Moving.{copyObject, moveObject}
 use Rattle.powercut.specs.Demand.{Whole, Unfinished, addressOf, payloadIn, copyOf, Clear, Movable, unitsTo}
 
 -- never gone: at every cut, and with no fuse, one of the two reads finished and whole

@@ -28,7 +28,7 @@ use Rattle.objects.specs.Header.{headerAt, payloadOf}
 use Rattle.objects.specs.Info.{found, none, infoAt, totalOf, spanOf}
 use Rattle.objects.specs.Payload.{payloadAt}
 use Rattle.objects.specs.Reader.{readerAt, readSome}
-use Rattle.writer.specs.Moving.{moveObject}
+use Rattle.moving.specs.Moving.{moveObject}
 
 -- ---- how a place reads
 

@@ -3,7 +3,7 @@
 -- An unfinished copy has no size yet, so a listing steps over its header only and reads the payload as headers. Whatever the payload says there,
 -- none of it counts.
 use mathlib.Core.Path.{_≡_}
-use mathlib.Core.Bool.{Bool, true, false, _&&_}
+use mathlib.Core.Bool.{Bool, false, _&&_}
 use mathlib.Core.List.{List, [], _∷_, _++_}
 use Prim.Native.Nat.{ℕ, suc, _+_, _≤_}
 use lib.Dec.{eqb}
@@ -18,34 +18,30 @@ use Rattle.objects.specs.declared.state.CompositeObjectState.the-variants.{Free
 use Rattle.objects.specs.declared.location.ObjectLocation.{ObjectLocation}
 use Rattle.objects.specs.declared.header.ObjectHeader.{ObjectHeader}
 use Rattle.objects.specs.Types.{typeByte, rankTo}
+use Rattle.objects.specs.Payload.{equal}
 use Rattle.objects.specs.Reader.{readerAt, readSome}
 use Rattle.objects.specs.Listing.{Visit, free, listing}
-use Rattle.writer.specs.Moving.{moveObject}
+use Rattle.moving.specs.Moving.{moveObject}
 use Rattle.powercut.specs.Demand.{payloadIn, Movable, unitsTo}
 
 -- ---- counting
-
-abbrev pub same : List ℕ → List ℕ → Bool
-same [] [] = true
-same [] (y ∷ ys) = false
-same (x ∷ xs) [] = false
-same (x ∷ xs) (y ∷ ys) = eqb x y && same xs ys
 
 -- the payload of the object at a place, through a reader, in one read: none is longer than a block
 unfoldable pub payloadRead : Geometry → ObjectLocation → List ℕ → Answer (List ℕ)
 payloadRead g at img = andThen (readerAt g at false img) (λ r. andThen (readSome g r 65536 img) (λ k. done (k .bytes)))
 
 abbrev pub isPayload : Answer (List ℕ) → List ℕ → Bool
-isPayload (done bs) payload = same bs payload
+isPayload (done bs) payload = equal bs payload
 isPayload (refused n) payload = false
 
-abbrev pub isFinished : CompositeObjectState → ObjectType → Bool
-isFinished Free t = false
-isFinished (Allocated u d) t = eqb (rankTo d) 2 && eqb (typeByte u) (typeByte t)
+-- finished, and of this type
+abbrev pub finishedAs : CompositeObjectState → ObjectType → Bool
+finishedAs Free t = false
+finishedAs (Allocated u d) t = eqb (rankTo d) 2 && eqb (typeByte u) (typeByte t)
 
 -- whether a visit is a finished object of this type and payload
 unfoldable pub isCopy : Geometry → ℕ → ObjectType → List ℕ → List ℕ → Visit → Bool
-isCopy g b t payload img v = isFinished (v .object .state) t && isPayload (payloadRead g (record { block = b; offset = v .offset }) img) payload
+isCopy g b t payload img v = finishedAs (v .object .state) t && isPayload (payloadRead g (record { block = b; offset = v .offset }) img) payload
 
 abbrev pub countIn : Geometry → ℕ → ObjectType → List ℕ → List ℕ → List Visit → ℕ
 countIn g b t payload img [] = 0

@@ -7,6 +7,7 @@ use Prim.Native.Nat.{ℕ, zero, suc, _+_, _-_, _%_}
 use lib.ListN.{length, getD, replicate}
 use lib.Dec.{leb, ltb, eqb}
 use lib.Pow.{areBytes}
+use Rattle.medium.specs.declared.granularity.Granularity.{Granularity}
 use Rattle.medium.specs.declared.granularity.Granularity.the-variants.{Bit, Word1, Word4}
 use Rattle.medium.specs.declared.geometry.Geometry.{Geometry}
 use Rattle.medium.specs.declared.fuse.Fuse.{Fuse}
@@ -14,6 +15,7 @@ use Rattle.medium.specs.declared.fuse.Fuse.the-variants.{Absent, Units}
 use Rattle.medium.specs.Granularity.{pick, widthOf}
 use Rattle.medium.specs.Geometry.{geometryOk, admit, checkOf}
 use Rattle.medium.specs.Operation.{Answer, done, refused, _>>=_, ask, test, putting, run, numberOf}
+use Rattle.medium.specs.Bench.{blocks, holding, all, same}
 use Rattle.medium.specs.Medium.{part, readable, writable, readAt, write}
 use Rattle.objects.specs.declared.types.ObjectType.the-variants.{FileData}
 use Rattle.objects.specs.declared.state.ObjectDataState.the-variants.{Valid}
@@ -23,31 +25,25 @@ use Rattle.objects.specs.declared.header.ObjectHeader.{ObjectHeader}
 use Rattle.objects.specs.Types.{typeOf, markOf, pairOf, marksOf, rankOf, stateIn}
 use Rattle.objects.specs.Header.{stateAt, sizedAt, headerAt, payloadOf, allocatableOf, marking, setState, sizableOf, setPayloadSize}
 use Rattle.objects.specs.Info.{infoAt, totalOf, spanOf}
+use Rattle.objects.specs.Payload.{equal}
 use Rattle.objects.specs.Reader.{readerAt, remainingOf, leftOf, readSome}
 use Rattle.objects.specs.Listing.{Stop, end, free, broken, nextOf, listFrom, listing}
 use Rattle.blocks.specs.BlockHeader.{padded, marked, blank, kindOfType, namedKind, kindIn, blockHeaderAt}
 use Rattle.blocks.specs.Scan.{scanUnknown, scanBlock}
-use Rattle.writer.specs.Writer.{soundOf, allocate, appendable, putBytes, append, finishable, flush, close, finalize}
-use Rattle.writer.specs.Moving.{sourceAt, chunk, copying, copyObject, moveObject}
+use Rattle.writer.specs.Writer.{soundOf, allocate, mayWrite, putBytes, writeSome, mayFinish, flush, close, finalize}
+use Rattle.moving.specs.Moving.{sourceAt, chunk, copying, copyObject, moveObject}
 use Rattle.powercut.specs.Demand.{addressOf, payloadIn}
-use Rattle.powercut.specs.Listed.{same, payloadRead, isPayload, isCopy, copiesBefore, copiesAfter}
+use Rattle.powercut.specs.Listed.{payloadRead, isPayload, isCopy, copiesBefore, copiesAfter}
 use Rattle.powercut.specs.Again.{leftBy}
 use Rattle.powercut.specs.Scans.{stopAfter}
 
-abbrev all : List Bool → Bool
-all [] = true
-all (b ∷ bs) = b && all bs
-
 -- ---- A's, C's and B's widths, with two blocks of 64 bytes, and A's with sizes of two bytes
 
+abbrev two : Granularity → Geometry
+two k = blocks 2 k
+
 abbrev small : Geometry
-small = record { granularity = Bit; s = 1; c = 1; size = 64; count = 2 }
-
-abbrev small-byte : Geometry
-small-byte = record { granularity = Word1; s = 1; c = 1; size = 64; count = 2 }
-
-abbrev small-word : Geometry
-small-word = record { granularity = Word4; s = 1; c = 1; size = 64; count = 2 }
+small = two Bit
 
 abbrev two-bytes : ℕ → Geometry
 two-bytes n = record { granularity = Bit; s = 2; c = 1; size = n; count = 2 }
@@ -64,7 +60,7 @@ object n = object-at 8 n
 
 -- a block with some bytes at an offset, and FF
 abbrev block : ℕ → List ℕ → List ℕ
-block o bs = replicate o 255 ++ bs ++ replicate (64 - (o + length bs)) 255
+block o bs = holding 64 o bs
 
 abbrev abc : List ℕ
 abc = 0x8E ∷ 0xF0 ∷ 0x03 ∷ 0x41 ∷ 0x42 ∷ 0x43 ∷ []
@@ -133,7 +129,7 @@ stops g h to img (suc n) = stopNumber (stopAfter g h to img n) ∷ stops g h to 
 
 -- a Data block, erased never, with an object or none behind its header
 abbrev data-block : List ℕ → List ℕ
-data-block bs = (0xBA ∷ 0x01 ∷ 0x44 ∷ 0xAA ∷ 0x00 ∷ 0x00 ∷ 0x00 ∷ 0x00 ∷ []) ++ bs ++ replicate (56 - length bs) 255
+data-block bs = block 0 ((0xBA ∷ 0x01 ∷ 0x44 ∷ 0xAA ∷ 0x00 ∷ 0x00 ∷ 0x00 ∷ 0x00 ∷ []) ++ bs)
 
 -- a scan of the destination's block, likewise
 abbrev scans : ObjectHeader → ObjectLocation → List ℕ → ℕ → List ℕ
@@ -163,7 +159,7 @@ abbrev worded : List ℕ
 worded = 0x8E ∷ 0xFF ∷ 0xFF ∷ 0xFF ∷ 0x00 ∷ 0xFF ∷ 0xFF ∷ 0xFF ∷ 0xFF ∷ 0xFF ∷ 0xFF ∷ 0xFF ∷ 0x03 ∷ 0xFF ∷ 0xFF ∷ 0xFF ∷ 0x41 ∷ 0x42 ∷ 0x43 ∷ 0xFF ∷ []
 
 abbrev long : List ℕ
-long = replicate 8 255 ++ (0x8E ∷ 0xF0 ∷ 0xFF ∷ 0x00 ∷ []) ++ replicate 255 0x41 ++ replicate 757 255
+long = holding 1024 8 ((0x8E ∷ 0xF0 ∷ 0xFF ∷ 0x00 ∷ []) ++ replicate 255 0x41)
 
 abbrev table : List Bool
 table =
@@ -189,9 +185,9 @@ table =
     ∷ eqb (copiesBefore small (object 0) (place 1 61) FileData empty) 1 ∷ eqb (copiesAfter small (object 0) (place 1 61) FileData empty Absent) 0
     -- the listing of the destination's block is refused after units 2, 3 and 4 of 7
     ∷ same (stops small (object 3) (place 1 8) (block 8 abc ++ block 8 []) 8) (0 ∷ 0 ∷ 0 ∷ 2 ∷ 2 ∷ 2 ∷ 0 ∷ 0 ∷ [])
-    ∷ same (stops small-byte (object 3) (place 1 8) (block 8 (0x8E ∷ 0x00 ∷ 0xFF ∷ 0x03 ∷ 0x41 ∷ 0x42 ∷ 0x43 ∷ []) ++ block 8 []) 8) (0 ∷ 0 ∷ 0 ∷ 2 ∷ 2 ∷ 2 ∷ 0 ∷ 0 ∷ [])
+    ∷ same (stops (two Word1) (object 3) (place 1 8) (block 8 (0x8E ∷ 0x00 ∷ 0xFF ∷ 0x03 ∷ 0x41 ∷ 0x42 ∷ 0x43 ∷ []) ++ block 8 []) 8) (0 ∷ 0 ∷ 0 ∷ 2 ∷ 2 ∷ 2 ∷ 0 ∷ 0 ∷ [])
     -- after unit 2 of 5 where a unit is a word
-    ∷ same (stops small-word (object-at 12 3) (place 1 12) (block 12 worded ++ block 8 []) 6) (0 ∷ 0 ∷ 0 ∷ 2 ∷ 0 ∷ 0 ∷ [])
+    ∷ same (stops (two Word4) (object-at 12 3) (place 1 12) (block 12 worded ++ block 8 []) 6) (0 ∷ 0 ∷ 0 ∷ 2 ∷ 0 ∷ 0 ∷ [])
     -- a size of two bytes that is half stored reads large, and the listing steps past the block's end
     ∷ same (stops (two-bytes 64) (object 3) (place 1 8) (block 8 (0x8E ∷ 0xF0 ∷ 0x03 ∷ 0x00 ∷ 0x41 ∷ 0x42 ∷ 0x43 ∷ []) ++ block 8 []) 9) (0 ∷ 0 ∷ 0 ∷ 0 ∷ 2 ∷ 2 ∷ 2 ∷ 0 ∷ 0 ∷ [])
     -- but where its low byte is FF it still reads unset: 255 bytes, refused after unit 257 too, and not after unit 258
@@ -206,5 +202,5 @@ table =
     ∷ []
 
 pub rows : all table ≡ true
-unfolding geometryOk admit _>>=_ ask test putting run readable writable readAt write typeOf markOf pairOf marksOf stateIn stateAt sizedAt headerAt payloadOf totalOf allocatableOf marking setState sizableOf setPayloadSize infoAt nextOf listFrom listing readerAt remainingOf leftOf readSome soundOf allocate appendable putBytes append finishable flush close finalize sourceAt chunk copying copyObject moveObject payloadRead isCopy kindOfType marked blank padded namedKind kindIn blockHeaderAt scanUnknown scanBlock
+unfolding geometryOk admit _>>=_ ask test putting run readable writable readAt write typeOf markOf pairOf marksOf stateIn stateAt sizedAt headerAt payloadOf totalOf allocatableOf marking setState sizableOf setPayloadSize infoAt nextOf listFrom listing readerAt remainingOf leftOf readSome soundOf allocate mayWrite putBytes writeSome mayFinish flush close finalize sourceAt chunk copying copyObject moveObject equal payloadRead isCopy kindOfType marked blank padded namedKind kindIn blockHeaderAt scanUnknown scanBlock
 rows = refl

@@ -12,7 +12,7 @@ use Rattle.objects.specs.declared.location.ObjectLocation.{ObjectLocation}
 use Rattle.objects.specs.declared.header.ObjectHeader.{ObjectHeader}
 use Rattle.objects.specs.Numbers.{bytes}
 use Rattle.objects.specs.Types.{typeByte}
-use Rattle.writer.specs.Moving.{moveObject}
+use Rattle.moving.specs.Moving.{moveObject}
 use Rattle.powercut.specs.Demand.{Movable, addressOf, payloadIn}
 
 -- of an object that is copied to address q: its type, payload, size and finish mark

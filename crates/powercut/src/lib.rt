@@ -1,6 +1,6 @@
 // What a loss of power leaves of a move.
 //
-// The demand is stated in specs/Demand.antt, over the definition of a move that the contract of `writer::moving::move_object` cites; the
+// The demand is stated in specs/Demand.antt, over the definition of a move that the contract of `moving::move_object` cites; the
 // units of a move and their order are in specs/Stores.antt, what follows for an auditor in specs/Answers.antt, and what listings show in
 // specs/Listed.antt. What can be done after a cut is in specs/Again.antt; at which cuts the copy's block can still be listed in
 // specs/Scans.antt, and scanned in specs/Rescans.antt; computed rows are in specs/Rows.antt. The one function here is that call again,
@@ -12,7 +12,7 @@ use objects::header::ObjectHeader;
 use objects::location::ObjectLocation;
 ghost use mathlib.Core.Path.{_≡_};
 ghost use Rattle.medium.specs.Operation.{run, endedBy, unlessStored};
-ghost use Rattle.writer.specs.Moving.{moveObject};
+ghost use Rattle.moving.specs.Moving.{moveObject};
 ghost use Rattle.powercut.specs.Call.{Survived};
 
 // Moves an object. Whenever the power goes, the original or the copy reads finished and whole, where the demand's conditions are met.
@@ -27,5 +27,5 @@ pub fn move_object(
     ensures { λ r. ⌜ r .header ≡ unlessStored (r .answer) h (r .header) ⌝ }
     ensures { λ r. ⌜ Survived g h to (now (image .entry)) f (endedBy (r .answer) (r .header) (now (image .exit))) ⌝ }
 {
-    writer::moving::move_object(g, image, f, h, to)
+    moving::move_object(g, image, f, h, to)
 }

@@ -33,8 +33,8 @@ use Rattle.blocks.specs.BlockHeader as header
 use Rattle.blocks.specs.BlockHeader.{kindNumber, headerBytes, writeHeader, padded, marked, kindOfType, namedKind, blockHeaderAt}
 use Rattle.blocks.specs.Format.{dataEmptyAt, again, planKnown, planOf, planAt, labelling, renewing, formatBlock, setBlockType}
 use Rattle.writer.specs.declared.writer.ObjectWriter.{ObjectWriter}
-use Rattle.writer.specs.Writer.{soundOf, allocate, appendable, putBytes, append, finishable, flush, close, finalize, delete, writeTo}
-use Rattle.writer.specs.Moving.{sourceAt, chunk, copying, copyObject, moveObject}
+use Rattle.writer.specs.Writer.{soundOf, allocate, mayWrite, putBytes, writeSome, mayFinish, flush, close, finalize, delete, writeTo}
+use Rattle.moving.specs.Moving.{sourceAt, chunk, copying, copyObject, moveObject}
 
 -- ---- A is `four Bit`, B is `four Word4`, C is `four Word1`
 
@@ -48,8 +48,8 @@ blank = replicate 1024 255
 abbrev obj : Granularity → ℕ → Op ObjectWriter
 obj k at = do
   w ← allocate (four k) (place 0 at) FileData
-  w₁ ← append (four k) w (0x41 ∷ 0x42 ∷ [])
-  w₂ ← append (four k) w₁ (0x43 ∷ [])
+  w₁ ← writeSome (four k) w (0x41 ∷ 0x42 ∷ [])
+  w₂ ← writeSome (four k) w₁ (0x43 ∷ [])
   finalize (four k) w₂
 
 -- ---- rows 1 to 3: the bytes, the total, the next offset
@@ -218,5 +218,5 @@ table =
     ∷ []
 
 pub rows : all table ≡ true
-unfolding geometryOk admit fitOf _>>=_ ask test putting run readable writable readAt write typeOf markOf pairOf marksOf stateIn stateAt sizedAt headerAt payloadSizeOf payloadOf allocatableOf marking setState staying updateState sizableOf setPayloadSize infoAt totalOf readerAt remainingOf leftOf readSome nextOf listFrom listing soundOf allocate appendable putBytes append finishable flush close finalize delete writeTo sourceAt chunk copying copyObject moveObject erasable erase headerBytes writeHeader padded marked header.blank kindOfType namedKind header.kindIn blockHeaderAt dataEmptyAt again planKnown planOf planAt labelling renewing formatBlock setBlockType
+unfolding geometryOk admit fitOf _>>=_ ask test putting run readable writable readAt write typeOf markOf pairOf marksOf stateIn stateAt sizedAt headerAt payloadSizeOf payloadOf allocatableOf marking setState staying updateState sizableOf setPayloadSize infoAt totalOf readerAt remainingOf leftOf readSome nextOf listFrom listing soundOf allocate mayWrite putBytes writeSome mayFinish flush close finalize delete writeTo sourceAt chunk copying copyObject moveObject erasable erase headerBytes writeHeader padded marked header.blank kindOfType namedKind header.kindIn blockHeaderAt dataEmptyAt again planKnown planOf planAt labelling renewing formatBlock setBlockType
 rows = refl

@@ -2,7 +2,7 @@
 use mathlib.Core.Path.{_≡_, refl, sym, ap, _∙_}
 use mathlib.Core.Bool.{Bool, true, false, _&&_}
 use mathlib.Core.List.{List, [], _∷_}
-use Prim.Native.Nat.{ℕ, zero, suc, _+_, _-_, _/_, _^_, _≤_, _<_}
+use Prim.Native.Nat.{ℕ, zero, suc, _+_, _-_, _^_, _≤_, _<_}
 use native.Mathlib.Nat.{pow-le-pow-right, pow-succ', add-zero}
 use native.Mathlib.Omega.{arith}
 use lib.ListN.{length, getD}
@@ -28,6 +28,7 @@ use Rattle.objects.specs.Types.{typeByte, typeOf, markOf, pairOf, marksOf, comp
 use Rattle.objects.specs.Header.{stateAt, sizedAt, headerAt, payloadOf}
 use Rattle.medium.proofs.Bytes.{getD-part, length-part}
 use Rattle.medium.proofs.Frame.{part-same}
+use Rattle.objects.proofs.Numbers.{number-bytes}
 use Rattle.medium.proofs.Places.{Laid}
 use Rattle.medium.proofs.Checks.{admitted, admit-pass}
 
@@ -143,15 +144,6 @@ module _ (img last : List ℕ) (len : length last ≡ length img) where
       }
 
 -- ---- numbers as bytes
-
-pub number-bytes : (s n : ℕ) → n < 256 ^ s → number (bytes s n) ≡ n
-number-bytes zero n h = omega arith
-number-bytes (suc s) n h = omega (arith, number-bytes s (n / 256) (omega arith))
-
-pub byte-bytes : (s n i : ℕ) → getD (bytes s n) i 0 < 256
-byte-bytes zero n i = omega arith
-byte-bytes (suc s) n zero = omega arith
-byte-bytes (suc s) n (suc i) = byte-bytes s (n / 256) i
 
 number-lt : (bs : List ℕ) → ((i : ℕ) → i < length bs → getD bs i 0 < 256) → number bs < 256 ^ length bs
 number-lt [] h = omega arith

@@ -16,7 +16,7 @@ use Rattle.medium.specs.Operation.{Answer, refused, andThen, orRefuse, give}
 use Rattle.objects.specs.Types.{rankOf}
 use Rattle.medium.proofs.Checks.{Fine, admitted}
 use Rattle.writer.specs.declared.writer.ObjectWriter.{ObjectWriter}
-use Rattle.writer.specs.Writer.{noTail, dataAt, possible, soundOf, appendable, pendingOf, tailOf, finishable, deleting}
+use Rattle.writer.specs.Writer.{noTail, dataAt, possible, soundOf, mayWrite, pendingOf, tailOf, mayFinish, deleting}
 use Rattle.writer.specs.Steps.{usableOf}
 
 abbrev pub width : Geometry → ℕ
@@ -52,25 +52,25 @@ sound-is w g room r e z =
     let a = admitted g room (pick (w .spent) 4 (possible g w)) (sym e ∙ z) in
     record { fine = a .0; possible = possible-is w g (possible g w) refl (unspent (w .spent) (possible g w) (a .1)) }
 
-pub record Appends (w : ObjectWriter) (g : Geometry) (room n : ℕ) : Type 0 where
+pub record HasRoom (w : ObjectWriter) (g : Geometry) (room n : ℕ) : Type 0 where
   pub sound : Sound w g room
   pub fits : dataAt g w + w .held + n ≤ g .size
 
-pub append-is : (w : ObjectWriter) (g : Geometry) (room n r : ℕ) → r ≡ appendable w g room n → r ≡ 0 → Appends w g room n
-unfolding appendable
-append-is w g room n r e z =
+pub has-room : (w : ObjectWriter) (g : Geometry) (room n r : ℕ) → r ≡ mayWrite w g room n → r ≡ 0 → HasRoom w g room n
+unfolding mayWrite
+has-room w g room n r e z =
     go (eqb (soundOf w g room) 0) refl (eqb (rankOf (w .object .state)) 1) (leb (dataAt g w + w .held) (g .size)) (leb (dataAt g w + w .held + n) (g .size)) refl (sym e ∙ z)
   where
     go : (a : Bool) → eqb (soundOf w g room) 0 ≡ a → (b c d : Bool) → leb (dataAt g w + w .held + n) (g .size) ≡ d
-        → pick {A = ℕ} a (pick b (pick c (pick d 0 5) 9) 4) (soundOf w g room) ≡ 0 → Appends w g room n
+        → pick {A = ℕ} a (pick b (pick c (pick d 0 5) 9) 4) (soundOf w g room) ≡ 0 → HasRoom w g room n
     go true p true true true q h = record { sound = sound-is w g room (soundOf w g room) refl (eqb-true _ _ p); fits = leb-true _ _ q }
     go true p true true false q h = absurd (omega arith)
     go true p true false d q h = absurd (omega arith)
     go true p false c d q h = absurd (omega arith)
     go false p b c d q h = absurd (false≢true (sym p ∙ eq-eqb _ _ h))
 
-pub finish-is : (w : ObjectWriter) (g : Geometry) (room r : ℕ) → r ≡ finishable w g room → r ≡ 0 → Sound w g room
-unfolding finishable
+pub finish-is : (w : ObjectWriter) (g : Geometry) (room r : ℕ) → r ≡ mayFinish w g room → r ≡ 0 → Sound w g room
+unfolding mayFinish
 finish-is w g room r e z = go (eqb (soundOf w g room) 0) refl (eqb (rankOf (w .object .state)) 1) (sym e ∙ z)
   where
     go : (a : Bool) → eqb (soundOf w g room) 0 ≡ a → (b : Bool) → pick {A = ℕ} a (pick b 0 4) (soundOf w g room) ≡ 0 → Sound w g room

@@ -18,7 +18,7 @@ use Rattle.writer.specs.declared.writer.ObjectWriter.{ObjectWriter}
 use Rattle.writer.specs.Writer.{dataAt, wholeOf, tailOf, heldBack, putBytes, pendingOf}
 use Rattle.writer.specs.Steps.{storeWords}
 use Rattle.writer.proofs.Laws.{width}
-use Rattle.writer.proofs.Sequence.{bind-same, bind-assoc, bind-first, give-bind}
+use Rattle.medium.proofs.Sequence.{bind-same, bind-assoc, bind-first, give-bind}
 
 -- ---- whole words
 

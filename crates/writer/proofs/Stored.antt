@@ -26,7 +26,7 @@ use Rattle.medium.proofs.Places.{width-is}
 use Rattle.medium.proofs.Split.{none-stored}
 use Rattle.medium.proofs.Writes.{write-stored}
 use Rattle.writer.specs.declared.writer.ObjectWriter.{ObjectWriter}
-use Rattle.writer.specs.Writer.{freshOf, withHeader, emptied, dataAt, appendable, allocate, wholeOf, pendingOf, heldBack, putBytes, append, flush, finishable, close, finalize}
+use Rattle.writer.specs.Writer.{freshOf, withHeader, emptied, dataAt, mayWrite, allocate, wholeOf, pendingOf, heldBack, putBytes, writeSome, flush, mayFinish, close, finalize}
 use Rattle.writer.proofs.Laws.{width}
 
 -- ---- where the operation is done, it stored us and gave a
@@ -89,13 +89,13 @@ allocate-stores g at t img =
     typed = write g (at .block) (at .offset) (typeByte t ∷ []) >>= λ _. give (freshOf g at t)
 
 module _ (g : Geometry) (w : ObjectWriter) (img : List ℕ) where
-  pub append-stores : (src : List ℕ)
-      → Stores (append g w src) img
+  pub some-stores : (src : List ℕ)
+      → Stores (writeSome g w src) img
       (unitsAt g (w .object .location .block) (dataAt g w) (take (wholeOf (width g) (length (pendingOf w src))) (pendingOf w src)))
       (heldBack w (wholeOf (width g) (length (pendingOf w src))) (drop (wholeOf (width g) (length (pendingOf w src))) (pendingOf w src)))
-  unfolding append putBytes
-  append-stores src =
-      test-then (λ i. appendable w g (length i) (length src)) (putBytes g w n (pendingOf w src)) img _ _
+  unfolding writeSome putBytes
+  some-stores src =
+      test-then (λ i. mayWrite w g (length i) (length src)) (putBytes g w n (pendingOf w src)) img _ _
       (λ _. then-give (write g (w .object .location .block) (dataAt g w) (take n (pendingOf w src))) (λ _. heldBack w n (drop n (pendingOf w src))) img _ tt
       (write-stores g (w .object .location .block) (dataAt g w) (take n (pendingOf w src)) img))
     where
@@ -151,7 +151,7 @@ pub finalize-stores : (g : Geometry) (w : ObjectWriter) (t : ObjectType) (img : 
     (withHeader (emptied w) (finished w t))
 unfolding finalize close
 finalize-stores g w t img e =
-    test-then (λ i. finishable w g (length i)) (close g Valid w) img _ _
+    test-then (λ i. mayFinish w g (length i)) (close g Valid w) img _ _
     (λ _. then (flush g w) (λ v. setPayloadSize g (v .object) (v .cursor) >>= λ h. setState g h Valid >>= λ k. give (withHeader v k)) img _ _ (emptied w) _ (flush-stores g w img)
     (then (setPayloadSize g (w .object) (w .cursor + w .held)) (λ h. setState g h Valid >>= λ k. give (withHeader (emptied w) k)) _ _ _ (withSize (w .object) (w .cursor + w .held)) _ (size-stores g (w .object) _ (w .cursor + w .held))
     (then-give (setState g (withSize (w .object) (w .cursor + w .held)) Valid) (withHeader (emptied w)) _ _ _ (mark-stores g (withSize (w .object) (w .cursor + w .held)) _ t e))))

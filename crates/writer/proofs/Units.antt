@@ -28,11 +28,11 @@ use Rattle.medium.proofs.Bytes.{length-units, length-apply}
 use Rattle.medium.proofs.Places.{width-is}
 use Rattle.medium.proofs.Split.{units-split}
 use Rattle.writer.specs.declared.writer.ObjectWriter.{ObjectWriter}
-use Rattle.writer.specs.Writer.{freshOf, dataAt, noTail, tailOf, appendable, allocate, wholeOf, pendingOf, heldBack, putBytes, append, finalize, writeTo}
+use Rattle.writer.specs.Writer.{freshOf, dataAt, noTail, tailOf, mayWrite, allocate, wholeOf, pendingOf, heldBack, putBytes, writeSome, finalize, writeTo}
 use Rattle.writer.specs.Units.{objectUnits, unitCount, Written}
-use Rattle.writer.proofs.Laws.{width, Appends, append-is}
+use Rattle.writer.proofs.Laws.{width, HasRoom, has-room}
 use Rattle.writer.proofs.Steps.{whole-le, whole-even, rest-few}
-use Rattle.writer.proofs.Stored.{Stores, then, then-give, gave, none-refused, allocate-stores, append-stores, finalize-stores}
+use Rattle.writer.proofs.Stored.{Stores, then, then-give, gave, none-refused, allocate-stores, some-stores, finalize-stores}
 
 -- ---- the payload: the whole words and then the tail are all of it
 
@@ -96,8 +96,8 @@ module _ (g : Geometry) (at : ObjectLocation) (t : ObjectType) (src : List ℕ) 
   pub object-stores : (img : List ℕ) → Stores (writeTo g at t src) img (objectUnits g at t src) (totalOf (g .granularity) (g .s) object)
   unfolding writeTo
   object-stores img x e =
-      then (allocate g at t) (λ w. append g w src >>= λ v. finalize g v >>= λ u. give (totalOf (g .granularity) (g .s) (u .object))) img _ _ (freshOf g at t) _ (allocate-stores g at t img)
-      (then (append g (freshOf g at t) src) (λ v. finalize g v >>= λ u. give (totalOf (g .granularity) (g .s) (u .object))) _ _ _ behind _ (append-stores g (freshOf g at t) _ src)
+      then (allocate g at t) (λ w. writeSome g w src >>= λ v. finalize g v >>= λ u. give (totalOf (g .granularity) (g .s) (u .object))) img _ _ (freshOf g at t) _ (allocate-stores g at t img)
+      (then (writeSome g (freshOf g at t) src) (λ v. finalize g v >>= λ u. give (totalOf (g .granularity) (g .s) (u .object))) _ _ _ behind _ (some-stores g (freshOf g at t) _ src)
       (then-give (finalize g behind) (λ u. totalOf (g .granularity) (g .s) (u .object)) _ _ _ (finalize-stores g behind t _ refl))) x e
       ∙ ap₂ (λ (us : List FlashUnit) (n : ℕ). record { events = us; answer = done (totalOf (g .granularity) (g .s) (record { state = comp.Allocated t Valid; size = n; location = at })) }) events behind-size
 
@@ -128,16 +128,16 @@ object-count g at t src h l =
 -- ---- of one that was not refused
 
 -- what its payload's test told
-pub object-fits : (g : Geometry) (at : ObjectLocation) (t : ObjectType) (src img : List ℕ) (n : ℕ) → writeTo g at t src img .answer ≡ done n → Appends (freshOf g at t) g (length img) (length src)
-unfolding writeTo append test ask
+pub object-fits : (g : Geometry) (at : ObjectLocation) (t : ObjectType) (src img : List ℕ) (n : ℕ) → writeTo g at t src img .answer ≡ done n → HasRoom (freshOf g at t) g (length img) (length src)
+unfolding writeTo writeSome test ask
 object-fits g at t src img n e =
-    let a = bound (allocate g at t) (λ w. append g w src >>= λ v. finalize g v >>= λ u. give (totalOf (g .granularity) (g .s) (u .object))) img n e in
+    let a = bound (allocate g at t) (λ w. writeSome g w src >>= λ v. finalize g v >>= λ u. give (totalOf (g .granularity) (g .s) (u .object))) img n e in
     let i = apply (allocate g at t img .events) img in
     let f : a .value ≡ freshOf g at t = gave (allocate g at t) img _ (freshOf g at t) (a .value) (allocate-stores g at t img) (a .first) in
-    let b = bound (append g (a .value) src) (λ v. finalize g v >>= λ u. give (totalOf (g .granularity) (g .s) (u .object))) i n (a .second) in
-    let c = bound (test (λ i. appendable (a .value) g (length i) (length src))) (λ _. putBytes g (a .value) (wholeOf (width g) (length (pendingOf (a .value) src))) (pendingOf (a .value) src)) i (b .value) (b .first) in
-    let z : appendable (a .value) g (length i) (length src) ≡ 0 = none-refused (appendable (a .value) g (length i) (length src)) (c .value) (c .first) in
-    append-is (freshOf g at t) g (length img) (length src) 0 (sym (rw (f, length-apply (allocate g at t img .events) img) at z)) refl
+    let b = bound (writeSome g (a .value) src) (λ v. finalize g v >>= λ u. give (totalOf (g .granularity) (g .s) (u .object))) i n (a .second) in
+    let c = bound (test (λ i. mayWrite (a .value) g (length i) (length src))) (λ _. putBytes g (a .value) (wholeOf (width g) (length (pendingOf (a .value) src))) (pendingOf (a .value) src)) i (b .value) (b .first) in
+    let z : mayWrite (a .value) g (length i) (length src) ≡ 0 = none-refused (mayWrite (a .value) g (length i) (length src)) (c .value) (c .first) in
+    has-room (freshOf g at t) g (length img) (length src) 0 (sym (rw (f, length-apply (allocate g at t img .events) img) at z)) refl
 
 header-least : (k : Granularity) (s : ℕ) → 1 ≤ s → 3 ≤ header k s
 header-least Bit s h = omega arith

@@ -1,4 +1,3 @@
 pub mod Writer
-pub mod Moving
 pub mod Steps
 pub mod Units

@@ -1,6 +1,6 @@
 -- How the code goes about a write: it stores the whole words of the bytes that it is given and holds the rest; a tail that is held is filled
 -- up to a word first. And the tests that several calls begin with.
-use Prim.Native.Nat.{ℕ, _≤_}
+use Prim.Native.Nat.{ℕ}
 use mathlib.Core.List.{List}
 use lib.ListN.{length}
 use lib.Dec.{eqb}
@@ -10,17 +10,10 @@ use Rattle.medium.specs.Granularity.{pick, widthOf}
 use Rattle.medium.specs.Geometry.{fitOf}
 use Rattle.medium.specs.Operation.{Op, _>>=_, give}
 use Rattle.objects.specs.declared.state.ObjectDataState.{ObjectDataState}
-use Rattle.objects.specs.declared.location.ObjectLocation.{ObjectLocation}
-use Rattle.objects.specs.declared.header.ObjectHeader.{ObjectHeader}
 use Rattle.objects.specs.Header.{setState}
-use Rattle.objects.specs.Payload.{payloadAt}
 use Rattle.writer.specs.declared.writer.ObjectWriter.{ObjectWriter}
 use Rattle.writer.specs.declared.writer.Writing.{Writing}
-use Rattle.writer.specs.declared.moving.Source.{Source}
-use Rattle.writer.specs.declared.moving.SourceRead.{SourceRead}
-use Rattle.writer.specs.declared.moving.SourceRead.the-variants as source
-use Rattle.writer.specs.Writer.{spentOf, withHeader, possible, allocate, wholeOf, putBytes, finalize}
-use Rattle.writer.specs.Moving.{turnsOf, copying}
+use Rattle.writer.specs.Writer.{spentOf, withHeader, possible, wholeOf, putBytes}
 
 -- a writer that no call goes on with
 abbrev pub spentBy : ObjectWriter → Stored → Writing
@@ -39,15 +32,3 @@ abbrev pub marked : Geometry → ObjectDataState → ObjectWriter → Op ObjectW
 marked g to w = do
   h ← setState g (w .object) to
   give (withHeader w h)
-
--- a source is no longer than a size field can say
-abbrev pub smallSource : SourceRead → Type 0
-smallSource (source.Got s) = s .size ≤ 4294967295
-smallSource (source.Refused n) = Unit {0}
-
--- the copy of what was found
-unfoldable pub writeCopy : Geometry → ObjectHeader → ObjectLocation → Source → Op ObjectWriter
-writeCopy g h to src = do
-  w ← allocate g to (src .kind)
-  w₁ ← copying (turnsOf (src .size)) g (h .location .block) (payloadAt g h) (src .size) w
-  finalize g w₁

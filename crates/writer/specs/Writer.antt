@@ -102,8 +102,8 @@ allocate g at t = do
 -- ---- then payload: the held bytes and the new ones, as far as they are whole words; the rest is held
 
 -- 4 out of state, 9 past the block's end, 5 too many
-unfoldable pub appendable : ObjectWriter → Geometry → ℕ → ℕ → ℕ
-appendable w g room n =
+unfoldable pub mayWrite : ObjectWriter → Geometry → ℕ → ℕ → ℕ
+mayWrite w g room n =
     let r = soundOf w g room in
     pick (eqb r 0)
     (pick (eqb (rankOf (w .object .state)) 1)
@@ -130,15 +130,15 @@ putBytes g w n bs = do
   write g (w .object .location .block) (dataAt g w) (take n bs)
   give (heldBack w n (drop n bs))
 
-unfoldable pub append : Geometry → ObjectWriter → List ℕ → Op ObjectWriter
-append g w src = do
-  test (λ img. appendable w g (length img) (length src))
+unfoldable pub writeSome : Geometry → ObjectWriter → List ℕ → Op ObjectWriter
+writeSome g w src = do
+  test (λ img. mayWrite w g (length img) (length src))
   putBytes g w (wholeOf (widthOf (g .granularity)) (length (pendingOf w src))) (pendingOf w src)
 
 -- ---- then size, then mark
 
-unfoldable pub finishable : ObjectWriter → Geometry → ℕ → ℕ
-finishable w g room = let r = soundOf w g room in pick (eqb r 0) (pick (eqb (rankOf (w .object .state)) 1) 0 4) r
+unfoldable pub mayFinish : ObjectWriter → Geometry → ℕ → ℕ
+mayFinish w g room = let r = soundOf w g room in pick (eqb r 0) (pick (eqb (rankOf (w .object .state)) 1) 0 4) r
 
 -- the held tail is padded to a word and stored; with none nothing is
 unfoldable pub flush : Geometry → ObjectWriter → Op ObjectWriter
@@ -157,7 +157,7 @@ close g to w = do
 
 unfoldable pub finalize : Geometry → ObjectWriter → Op ObjectWriter
 finalize g w = do
-  test (λ img. finishable w g (length img))
+  test (λ img. mayFinish w g (length img))
   close g Valid w
 
 -- an unfinished object gets its size first; of one that is not there, or deleted, nothing is stored
@@ -188,6 +188,6 @@ wroteEnd (wrote.Refused k f) i = record { answer = refused k; fuse = f; state = 
 unfoldable pub writeTo : Geometry → ObjectLocation → ObjectType → List ℕ → Op ℕ
 writeTo g at t src = do
   w ← allocate g at t
-  w₁ ← append g w src
+  w₁ ← writeSome g w src
   w₂ ← finalize g w₁
   give (totalOf (g .granularity) (g .s) (w₂ .object))

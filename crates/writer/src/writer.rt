@@ -21,7 +21,7 @@ ghost use lib.Seq.{paste};
 ghost use Rattle.medium.specs.Granularity.{widestUnit, widthOf};
 ghost use Rattle.medium.specs.Operation.{run, endedBy, counted, unlessStored};
 ghost use Rattle.objects.specs.Types.{rankOf};
-ghost use Rattle.writer.specs.Writer.{freshOf, spentOf, keptOf, backOf, withHeader, dataAt, soundOf, spaceOf, payloadSize, totalSize, appendable, append, pendingOf, heldBack, finishable, wroteOf, wroteEnd, writeTo};
+ghost use Rattle.writer.specs.Writer.{freshOf, spentOf, keptOf, backOf, withHeader, dataAt, soundOf, spaceOf, payloadSize, totalSize, mayWrite, writeSome, pendingOf, heldBack, mayFinish, wroteOf, wroteEnd, writeTo};
 ghost use Rattle.writer.specs.Steps.{spentBy, usableOf, storeWords, marked};
 
 pub struct ObjectWriter {
@@ -77,10 +77,10 @@ impl ObjectWriter {
 
     // Takes payload bytes: whole words are stored, less than a word is held.
     pub fn write(self, g: Geometry, image: &mut [u8], f: Fuse, src: &[u8]) -> Writing
-        ensures { λ r. ⌜ endedBy (r .answer) (r .writer) (now (image .exit)) ≡ run f (append g self (now (src .entry))) (now (image .entry)) ⌝ }
+        ensures { λ r. ⌜ endedBy (r .answer) (r .writer) (now (image .exit)) ≡ run f (writeSome g self (now (src .entry))) (now (image .entry)) ⌝ }
         ensures { λ r. ⌜ r .writer ≡ keptOf (r .answer) self (r .writer) ⌝ }
     {
-        let bad = self.may_append(g, image.len(), src.len());
+        let bad = self.may_write(g, image.len(), src.len());
         if bad != 0 {
             return self.back(Stored::Refused(bad, f));
         }
@@ -265,8 +265,8 @@ impl ObjectWriter {
     }
 
     // For n bytes more: 4 out of state, 9 past the block's end, 5 too many. By a difference, so that a false length cannot wrap.
-    fn may_append(self, g: Geometry, room: usize, n: usize) -> u8
-        ensures { λ r. ⌜ r ≡ appendable self g room n ⌝ }
+    fn may_write(self, g: Geometry, room: usize, n: usize) -> u8
+        ensures { λ r. ⌜ r ≡ mayWrite self g room n ⌝ }
     {
         let bad = self.sound(g, room);
         if bad != 0 {
@@ -289,7 +289,7 @@ impl ObjectWriter {
     }
 
     fn may_finish(self, g: Geometry, room: usize) -> u8
-        ensures { λ r. ⌜ r ≡ finishable self g room ⌝ }
+        ensures { λ r. ⌜ r ≡ mayFinish self g room ⌝ }
     {
         let bad = self.sound(g, room);
         if bad != 0 {

@@ -1,5 +1,5 @@
 -- `medium::lend` meets its contract.
-use mathlib.Core.Path.{_≡_, sym, _∙_}
+use mathlib.Core.Path.{_≡_}
 use Prim.Native.Nat.{_+_, _-_, _*_}
 use native.Mathlib.Omega.{arith}
 use Rattle.medium.proofs.Ranges.{reached, read-part, read-refused}

@@ -1,7 +1,5 @@
-use mathlib.Core.Path.{_≡_, refl, sym, _∙_}
-use native.Mathlib.Omega.{arith}
+use mathlib.Core.Path.{sym}
 use borrow.Author.Tests.{lt-ltb, le-ltb, le-leb, lt-leb, eq-eqb, ne-eqb}
-use Rattle.medium.specs.Granularity.{typeAt}
 use borrow.Author.Needs.{needs}
 use Rattle.blocks.proofs.header.is_named.Statement.{statement}
 use Rattle.blocks.proofs.header.is_named.Tie as tie

@@ -1,5 +1,5 @@
 use mathlib.Core.Path.{sym}
-use Rattle.cface.proofs.Counts.{append-small, small-by}
+use Rattle.cface.proofs.Counts.{some-small, small-by}
 use Rattle.cface.proofs.Spending.{writer-uncut, given-spent, none-spent}
 use borrow.Author.Needs.{needs}
 use Rattle.cface.proofs.writer_calls.stumpchoir_writer_write.Statement.{statement}
@@ -33,7 +33,7 @@ write-requires : tie.Need-write-requires
 write-requires c κs = search needs
 
 hand-back-requires : tie.Need-hand-back-requires
-hand-back-requires c κs = small-by _ _ _ _ (c .before .before .before .before .write .result .answer) (c .before .before .before .before .write .result .writer) (c .before .before .before .before .write .ensures .0) (append-small _ _ _ _ _)
+hand-back-requires c κs = small-by _ _ _ _ (c .before .before .before .before .write .result .answer) (c .before .before .before .before .write .result .writer) (c .before .before .before .before .write .ensures .0) (some-small _ _ _ _ _)
 
 same-length : tie.Need-same-length
 same-length c = search needs
