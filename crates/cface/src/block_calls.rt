@@ -9,11 +9,11 @@ use crossing::call;
 use crossing::records;
 use crossing::records::BlockTypeRead;
 ghost use mathlib.Core.Path.{_≡_};
-ghost use Rattle.medium.specs.Operation.{run};
 ghost use Rattle.blocks.specs.BlockHeader.{blockHeaderAt, writeHeader};
 ghost use Rattle.blocks.specs.Format.{dataEmptyAt, formatBlock, formatStorage, setBlockType};
 ghost use Rattle.blocks.specs.Record.{kindOf, recordNumbers};
 ghost use Rattle.blocks.specs.Scan.{scanBlock, calculateFreeableSpace};
+ghost use Rattle.medium.specs.Operation.{run};
 ghost use Rattle.crossing.specs.Crossing.{told, telling, geometryIn, crossed, crossing, fuseOf, given, plain};
 ghost use Rattle.crossing.specs.Records.{blockHeaderNumbers, blockHeaderOf, flagNumber, blockTypeOf};
 

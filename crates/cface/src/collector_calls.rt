@@ -2,9 +2,9 @@
 // Made by tools/cface.
 use crossing::call;
 ghost use mathlib.Core.Path.{_≡_};
+ghost use Rattle.collector.specs.Passes.{deleteInvalidObjects, eraseInvalidFinishedBlocks, eraseFullFinishedBlocks, collect};
 ghost use Rattle.medium.specs.Beside.{both};
 ghost use Rattle.medium.specs.Operation.{run};
-ghost use Rattle.collector.specs.Passes.{deleteInvalidObjects, eraseInvalidFinishedBlocks, eraseFullFinishedBlocks, collect};
 ghost use Rattle.crossing.specs.Crossing.{crossed, crossing, fuseOf, geometryIn};
 
 // The first pass: deletes objects that a power cut left unfinished.

@@ -10,9 +10,9 @@ use objects::metadata::MetadataRead;
 ghost use mathlib.Core.Path.{_≡_};
 ghost use lib.ListN.{length};
 ghost use Rattle.objects.specs.Metadata.{readMetadata, metadataAt, nextLocation};
+ghost use Rattle.cface.specs.Objects.{nextLocationOut, resetIn};
 ghost use Rattle.crossing.specs.Crossing.{told, telling, askedIn, geometryIn, two, tellingBy, fitting};
 ghost use Rattle.crossing.specs.Values.{metadataNumbers, headerOf, located, metadataOf};
-ghost use Rattle.cface.specs.Objects.{nextLocationOut, resetIn};
 
 // Path hash and name location of an object that is known by its header.
 #[no_mangle]

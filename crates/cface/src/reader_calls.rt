@@ -9,9 +9,9 @@ use objects::reader::ReaderRead;
 ghost use mathlib.Core.Path.{_≡_};
 ghost use lib.ListN.{length};
 ghost use Rattle.objects.specs.Reader.{readerAt, readerLen, readSome};
+ghost use Rattle.cface.specs.Objects.{rewindOf, chunkOut};
 ghost use Rattle.crossing.specs.Crossing.{told, telling, geometryIn, plain, asked, fitting, two, tellingBy, askedIn};
 ghost use Rattle.crossing.specs.Values.{readerNumbers, located, readerOf};
-ghost use Rattle.cface.specs.Objects.{rewindOf, chunkOut};
 
 // A reader of the Finalized object at a place, or of any object that is there.
 #[no_mangle]

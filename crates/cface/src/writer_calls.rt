@@ -10,10 +10,10 @@ use writer::writer::ObjectWriter;
 ghost use mathlib.Core.Path.{_≡_};
 ghost use Rattle.medium.specs.Operation.{run};
 ghost use Rattle.writer.specs.Writer.{allocate, spaceOf, payloadSize, totalSize, writeSome, finalize, delete};
+ghost use Rattle.cface.specs.Writers.{writerNumbers, writerOf, spentAfter};
 ghost use Rattle.crossing.specs.Crossing.{crossedWith, crossingWith, fuseOf, given, geometryIn, told, telling, plain, asked};
 ghost use Rattle.crossing.specs.Kinds.{objectTypeOf};
 ghost use Rattle.crossing.specs.Values.{located};
-ghost use Rattle.cface.specs.Writers.{writerNumbers, writerOf, spentAfter};
 
 // Stores the type (8F, 8E or 8D, else 4) of a new object, over Free or over Allocated of the same type: its writer.
 #[no_mangle]

@@ -5,10 +5,10 @@ pub mod Objects
 pub mod Writer
 pub mod Blocks
 pub mod Collector
+pub mod Cface
+pub mod Lines
 pub mod Moving
 pub mod Powercut
 pub mod Crossing
-pub mod Cface
 pub mod GeometryRecord
-pub mod Lines
 pub mod Cuts

@@ -40,7 +40,8 @@ use Rattle.medium.proofs.Places.{laid}
 use Rattle.medium.proofs.Programs.{Programs, store-programs, cut-twice}
 use Rattle.medium.proofs.Traced.{ran, state-cut, power-cut, same-cut}
 use Rattle.shown.proofs.Reading.{stateSeen, Stands, state-read}
-use Rattle.powercut.proofs.Crash.{original-before, copy-before, original-between, copy-between}
+use Rattle.fresh.proofs.Written.{unfinished, stands-new}
+use Rattle.powercut.proofs.Crash.{original-before, original-between}
 use Rattle.powercut.proofs.Ran.{Ready, Able, able, source-of, move-ran, delete-ran}
 use Rattle.powercut.proofs.Survive.{N, us, all-copied, as-copied, cut-before, cut-between, units-are, copy-is, original-whole, move-traced, ready}
 
@@ -110,7 +111,7 @@ module _ (g : Geometry) (h : ObjectHeader) (to : ObjectLocation) (t : ObjectType
   -- ---- before the mark: the original's header and payload are as they were, and the destination is free or begun
 
   able-begun : (k : ℕ) → Able g h to t pay (apply (take k (before gr (g .s) t pay q)) img)
-  able-begun k = go (copy-before gr (g .s) t p q (h .size) pay img (r .given) k)
+  able-begun k = go (unfinished gr (g .s) t q pay img (r .given .new) k)
     where
       on : (st : CompositeObjectState) → stateSeen gr q (apply (take k (before gr (g .s) t pay q)) img) ≡ done st → allocatableOf t st ≡ done tt → Able g h to t pay (apply (take k (before gr (g .s) t pay q)) img)
       on st seen al =
@@ -177,7 +178,7 @@ module _ (g : Geometry) (h : ObjectHeader) (to : ObjectLocation) (t : ObjectType
       move-refused g h to t (length pay) both
       (source-of g h t (length pay) both (original-whole g h to t pay img r (all-copied g h to t pay img r) (original-between gr (g .s) t p q (h .size) pay img (r .given)) .header) (r .finished) (r .payload))
       (state-read g to both (ap (checkOf g) (length-apply (all-copied g h to t pay img r) img) ∙ r .fine) (r .block-to)
-      (omega (arith, laid gr (g .s) (length pay) (r .given .width-3), r .in-block-to)) ∙ copy-between gr (g .s) t p q (h .size) pay img (r .given) .state)
+      (omega (arith, laid gr (g .s) (length pay) (r .given .new .width-3), r .in-block-to)) ∙ stands-new gr (g .s) t q pay img (r .given .new) .state)
 
   deleted-both : run Absent (setState g h Deleted) both ≡ record { answer = done (goneOf h t); fuse = Absent; state = run Absent (moveObject g h to) img .state }
   deleted-both =

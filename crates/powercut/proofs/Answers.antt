@@ -2,11 +2,11 @@
 use mathlib.Core.Path.{_≡_, refl, sym, ap, ap₂, _∙_, subst}
 use mathlib.Core.Logic.{_⊎_, inl, inr}
 use mathlib.Core.Bool.{false}
-use mathlib.Core.List.{List, _++_, append-assoc, append-nil}
+use mathlib.Core.List.{List, append-assoc}
 use Prim.Native.Nat.{ℕ, _+_, _-_, _≤_, _<_}
 use native.Mathlib.Omega.{arith}
 use lib.ListN.{length, take}
-use lib.Seq.{take-append-le, take-all}
+use lib.Seq.{take-all}
 use Rattle.medium.specs.declared.geometry.Geometry.{Geometry}
 use Rattle.medium.specs.declared.fuse.Fuse.the-variants.{Absent, Units}
 use Rattle.medium.specs.Units.{FlashUnit}
@@ -20,11 +20,12 @@ use Rattle.powercut.specs.Demand.{readerOf, Whole, Unfinished, addressOf
 use Rattle.powercut.specs.Answers.{NeverGone, TwoOnce, Kept, Copied, CopiedWhole, CopyKeeps}
 use Rattle.medium.proofs.Runs.{prefix-flash, cost-flash, leb-is, leb-yes, leb-no}
 use Rattle.medium.proofs.Bytes.{length-apply}
-use Rattle.powercut.specs.Stores.{before, markUnits}
-use Rattle.powercut.proofs.Crash.{copy-before, copy-between, framed-copied, original-cut}
+use Rattle.powercut.specs.Stores.{before}
+use Rattle.fresh.proofs.Written.{length-new, cut-before, cut-all, unfinished, stands-new, framed}
+use Rattle.powercut.proofs.Crash.{original-cut}
 use Rattle.medium.proofs.Traced.{ran}
 use Rattle.powercut.proofs.Ran.{Ready, able, copy-ran}
-use Rattle.powercut.proofs.Survive.{all-copied, length-before, length-copied, N, copy-is, original-whole, copy-whole, copy-unfinished, span-is, units-are, ready, demand}
+use Rattle.powercut.proofs.Survive.{all-copied, N, copy-is, original-whole, copy-whole, copy-unfinished, span-is, units-are, ready, demand}
 
 pub never-gone : NeverGone
 unfolding NeverGone Demand
@@ -68,19 +69,16 @@ module _ (g : Geometry) (h : ObjectHeader) (to : ObjectLocation) (t : ObjectType
   begun = before (g .granularity) (g .s) t pay (addressOf g to)
 
   copy-traced : copyObject g h to img ≡ ran us (copyOf g h to)
-  copy-traced = copy-ran g h to t pay img (able g h to t pay img r) ∙ ap₂ (λ (u : List FlashUnit) (x : ObjectHeader). ran u x) (simp append-nil) (copy-is g h to t pay img r)
+  copy-traced = copy-ran g h to t pay img (able g h to t pay img r) ∙ ap₂ (λ (u : List FlashUnit) (x : ObjectHeader). ran u x) (simp append-assoc) (copy-is g h to t pay img r)
 
   kept-at : (k : ℕ) → Kept g h to t pay img (apply (take k us) img)
   kept-at k =
       record {
         original = original-whole g h to t pay img r (take k us) (original-cut (g .granularity) (g .s) t (addressOf g (h .location)) (addressOf g to) (h .size) pay img (r .given) k);
         long = length-apply (take k us) img;
-        elsewhere = λ j c. framed-copied (g .granularity) (g .s) t (addressOf g (h .location)) (addressOf g to) (h .size) pay img (r .given) k j
+        elsewhere = λ j c. framed (g .granularity) (g .s) t (addressOf g to) pay img (r .given .new) k j
             (subst (λ (n : ℕ). Clear (addressOf g to) (addressOf g to + n) j) (span-is g h to t pay img r) c);
       }
-
-  as-begun : us ≡ begun ++ markUnits (g .granularity) (addressOf g to)
-  as-begun = simp (append-assoc, append-nil)
 
   n-is : unitsTo g h ≡ N g h to t pay img r
   n-is = units-are g h to t pay img r
@@ -93,17 +91,17 @@ module _ (g : Geometry) (h : ObjectHeader) (to : ObjectLocation) (t : ObjectType
         kept = subst (λ (m : List ℕ). Kept g h to t pay img m) (sym ei) (kept-at k);
         before-mark = λ c.
             subst (λ (m : List ℕ). Unfinished g to t m)
-            (at (take k begun) (ap (take k) as-begun ∙ take-append-le k begun (markUnits (g .granularity) (addressOf g to)) (omega (arith, length-before g h to t pay img r, n-is))))
-            (copy-unfinished g h to t pay img r (take k begun) (copy-before (g .granularity) (g .s) t (addressOf g (h .location)) (addressOf g to) (h .size) pay img (r .given) k));
+            (at (take k begun) (cut-before (g .granularity) (g .s) t (addressOf g to) pay k (omega (arith, n-is))))
+            (copy-unfinished g h to t pay img r (take k begun) (unfinished (g .granularity) (g .s) t (addressOf g to) pay img (r .given .new) k));
         after-mark = λ c.
-            subst (λ (m : List ℕ). Whole g (copyOf g h to) t pay m) (at us (take-all k us (omega (arith, length-copied g h to t pay img r, n-is))))
-            (copy-whole g h to t pay img r us (copy-between (g .granularity) (g .s) t (addressOf g (h .location)) (addressOf g to) (h .size) pay img (r .given)));
+            subst (λ (m : List ℕ). Whole g (copyOf g h to) t pay m) (at us (cut-all (g .granularity) (g .s) t (addressOf g to) pay k (omega (arith, n-is))))
+            (copy-whole g h to t pay img r us (stands-new (g .granularity) (g .s) t (addressOf g to) pay img (r .given .new)));
         lost = lost;
         copied = copied;
       }
 
   long-is : length us ≡ unitsTo g h + 1
-  long-is = omega (arith, length-copied g h to t pay img r, n-is)
+  long-is = omega (arith, length-new (g .granularity) (g .s) t (addressOf g to) pay, n-is)
 
   copied-cut : (k : ℕ) → Copied g h to t pay img k (cut {W = flash} (Units k) (ran us (copyOf g h to)) img)
   copied-cut k = go (leb-is (length us) k)
@@ -124,7 +122,7 @@ module _ (g : Geometry) (h : ObjectHeader) (to : ObjectLocation) (t : ObjectType
   copied-whole =
       record {
         kept = subst (λ (u : List FlashUnit). Kept g h to t pay img (apply u img)) (take-all (length us) us (omega arith)) (kept-at (length us));
-        copy = copy-whole g h to t pay img r us (copy-between (g .granularity) (g .s) t (addressOf g (h .location)) (addressOf g to) (h .size) pay img (r .given));
+        copy = copy-whole g h to t pay img r us (stands-new (g .granularity) (g .s) t (addressOf g to) pay img (r .given .new));
         copied = refl;
         no-fuse = refl;
       }

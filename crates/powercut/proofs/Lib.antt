@@ -1,5 +1,3 @@
-pub mod Places
-pub mod Whole
 pub mod Crash
 pub mod Ran
 pub mod Survive

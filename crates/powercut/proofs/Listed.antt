@@ -12,14 +12,14 @@ use lib.Dec.{eqb}
 use borrow.Author.Tests.{eqb-true, eqb-false, eq-eqb}
 use Rattle.medium.specs.declared.geometry.Geometry.{Geometry}
 use Rattle.medium.specs.declared.fuse.Fuse.the-variants.{Absent, Units}
-use Rattle.medium.specs.Granularity.{pick, deleteAt, sizeAt, header, blockHeader}
+use Rattle.medium.specs.Granularity.{pick, deleteAt, header, blockHeader}
 use Rattle.medium.specs.Geometry.{checkOf, address}
 use Rattle.medium.specs.Units.{FlashUnit}
 use Rattle.medium.specs.Operation.{Answer, apply, done, run}
 use Rattle.medium.specs.Medium.{part}
 use Rattle.objects.specs.declared.types.ObjectType.{ObjectType}
 use Rattle.objects.specs.declared.state.ObjectDataState.the-variants.{Untrusted, Deleted}
-use Rattle.objects.specs.declared.state.CompositeObjectState.the-variants.{Free, Allocated}
+use Rattle.objects.specs.declared.state.CompositeObjectState.the-variants.{Allocated}
 use Rattle.objects.specs.declared.location.ObjectLocation.{ObjectLocation}
 use Rattle.objects.specs.declared.header.ObjectHeader.{ObjectHeader}
 use Rattle.objects.specs.Types.{typeByte}
@@ -35,7 +35,6 @@ use Rattle.medium.proofs.Bytes.{getD-part}
 use Rattle.medium.proofs.Places.{Laid, laid}
 use Rattle.medium.proofs.Checks.{within}
 use Rattle.objects.proofs.Equal.{equal-refl}
-use Rattle.shown.proofs.Reading.{seen-free, header-read}
 use Rattle.powercut.specs.Stores.{before}
 use Rattle.medium.proofs.Traced.{state-cut}
 use Rattle.powercut.proofs.Ran.{Ready}
@@ -45,7 +44,9 @@ use Rattle.shown.proofs.Agreeing.{Agree, agree-of}
 use Rattle.powercut.proofs.Counting.{walk-count, list-count}
 use Rattle.shown.proofs.Steps.{free-fits}
 use Rattle.medium.proofs.Programs.{Partly}
-use Rattle.powercut.proofs.Phantom.{payload-partly, none-behind}
+use Rattle.fresh.proofs.Parts.{payload-partly}
+use Rattle.fresh.proofs.Scans.{free-info}
+use Rattle.powercut.proofs.Phantom.{none-behind}
 
 count-append : (g : Geometry) (b : ℕ) (t : ObjectType) (pay m : List ℕ) (xs ys : List Visit) → countIn g b t pay m (xs ++ ys) ≡ countIn g b t pay m xs + countIn g b t pay m ys
 count-append g b t pay m [] ys = sym (zero-add (countIn g b t pay m ys))
@@ -78,11 +79,6 @@ span-size g h k e = rw e
 payload-size : (s : ℕ) (h k : ObjectHeader) → h .size ≡ k .size → payloadOf s h ≡ payloadOf s k
 unfolding payloadOf
 payload-size s h k e = rw e
-
--- an FF byte is a free place
-pub free-info : (g : Geometry) (b o : ℕ) (m : List ℕ) → checkOf g (length m) ≡ 0 → b < g .count → o + sizeAt (g .granularity) + g .s ≤ g .size → getD m (address g b o) 0 ≡ 255 → infoAt g (place g b o) m ≡ done none
-unfolding infoAt
-free-info g b o m f hb fits e = rw (header-read g (place g b o) m Free _ f hb fits (seen-free (g .granularity) (address g b o) m e) refl)
 
 blocks-apart : (a b size : ℕ) → a < b → a * size + size ≤ b * size
 blocks-apart a b size h = omega (arith, mul-le-mul-right size h, suc-mul a size)
@@ -293,8 +289,8 @@ module _ (g : Geometry) (h : ObjectHeader) (to : ObjectLocation) (room : ℕ) (t
           let x : q + (header (g .granularity) (g .s) + j) ≡ q + header (g .granularity) (g .s) + j = omega arith in
           subst (λ (m : List ℕ). Partly pay j (getD m (address g dst (to .offset) + header (g .granularity) (g .s) + j) 0))
           (sym (e ∙ ap (λ (u : List FlashUnit). apply u img) (cut-before g h to t pay img r k (omega (arith, units-are g h to t pay img r)))))
-          (payload-partly (g .granularity) (g .s) t p q (h .size) pay img (r .given) k j (omega (arith, in-image (header (g .granularity) (g .s) + j) (omega arith)))
-          (ap (λ (i : ℕ). getD img i 0) (sym x) ∙ free-byte (header (g .granularity) (g .s) + j) (omega arith)) (pay-byte j))
+          (payload-partly (g .granularity) (g .s) t q pay img (r .given .new) k j (omega (arith, in-image (header (g .granularity) (g .s) + j) (omega arith)))
+          (ap (λ (i : ℕ). getD img i 0) (sym x) ∙ free-byte (header (g .granularity) (g .s) + j) (omega arith)))
 
       go : (infoAt g to last ≡ done none) ⊎ (infoAt g to last ≡ done (found (record { state = Allocated t Untrusted; size = u .size; location = to })))
           → countIn g dst t pay last (listBy (nextOf g (placed dst (to .offset)) last) (placed dst (to .offset)) (λ j. listFrom n g j last) .visits) ≡ 0

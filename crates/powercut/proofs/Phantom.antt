@@ -3,20 +3,16 @@
 use mathlib.Core.Path.{_≡_, refl, sym, ap, ap₂, _∙_, subst}
 use mathlib.Core.Logic.{inl, inr}
 use mathlib.Core.Bool.{Bool, true, false, _&&_, and-false}
-use mathlib.Core.List.{List, [], _∷_, _++_}
+use mathlib.Core.List.{List}
 use Prim.Native.Nat.{ℕ, zero, suc, _+_, _-_, _*_, _≤_, _<_, min}
-use native.Mathlib.Nat.{sub-zero, zero-sub}
 use native.Mathlib.Omega.{arith}
-use lib.ListN.{length, take, getD}
-use lib.Seq.{take-nil}
+use lib.ListN.{length, getD}
 use lib.Dec.{eqb}
 use borrow.Author.Tests.{le-leb}
-use Rattle.medium.specs.declared.granularity.Granularity.{Granularity}
 use Rattle.medium.specs.declared.geometry.Geometry.{Geometry}
-use Rattle.medium.specs.Granularity.{pick, widthOf, sizeAt, header}
+use Rattle.medium.specs.Granularity.{pick, header}
 use Rattle.medium.specs.Geometry.{checkOf, address}
-use Rattle.medium.specs.Units.{FlashUnit}
-use Rattle.medium.specs.Operation.{apply, Answer, done, refused, andThen}
+use Rattle.medium.specs.Operation.{Answer, done, refused, andThen}
 use Rattle.medium.specs.Medium.{readAt}
 use Rattle.objects.specs.declared.types.ObjectType.{ObjectType}
 use Rattle.objects.specs.declared.state.ObjectDataState.the-variants.{Untrusted, Valid, Deleted}
@@ -33,48 +29,13 @@ use Rattle.objects.specs.Reader.{Chunk, readerAt, remainingOf, leftOf, readSome
 use Rattle.objects.specs.Listing.{placed, Met, object, freePlace, blockEnd, nextOf, listBy, listFrom}
 use Rattle.powercut.specs.Demand.{readerOf}
 use Rattle.powercut.specs.Listed.{payloadRead, isPayload, isCopy, countIn}
-use Rattle.medium.proofs.Runs.{apply-append}
-use Rattle.medium.proofs.Bytes.{Misses, All-take, frame, length-apply, getD-part, length-part}
-use Rattle.medium.proofs.Programs.{Partly, partly}
+use Rattle.medium.proofs.Bytes.{getD-part, length-part}
+use Rattle.medium.proofs.Programs.{Partly}
 use Rattle.medium.proofs.Places.{Laid, laid}
 use Rattle.medium.proofs.Checks.{within, fine-of-check}
 use Rattle.objects.proofs.Equal.{equal-is}
 use Rattle.shown.proofs.Reading.{seen-free, Got, read-back, header-back, header-read, headerOf}
-use Rattle.powercut.specs.Stores.{typeUnits, payUnits, sizeUnits, before}
-use Rattle.powercut.proofs.Crash.{Given, type-clear, size-clear}
 use Rattle.shown.proofs.Walk.{place, visit, spanAt, Stepped, next-back, info-back}
-
--- ---- the bytes of the payload, as far as it is stored
-
-pub take-both : {A : Type 0} (k : ℕ) (xs ys : List A) → take k (xs ++ ys) ≡ take k xs ++ take (k - length xs) ys
-take-both k [] ys = ap₂ (λ n zs. zs ++ take n ys) (sym (sub-zero k)) (sym (take-nil k))
-take-both zero (x ∷ xs) ys = ap (λ n. take n ys) (sym (zero-sub (suc (length xs))))
-take-both (suc k) (x ∷ xs) ys = let n : k - length xs ≡ suc k - suc (length xs) = omega arith in ap (λ l. x ∷ l) (take-both k xs ys ∙ ap (λ (i : ℕ). take k xs ++ take i ys) n)
-
-module _ (g : Granularity) (s : ℕ) (t : ObjectType) (p q size : ℕ) (pay img : List ℕ) (v : Given g s t p q size pay img) where
-  -- each byte behind the copy's header, before its finish mark
-  pub payload-partly : (k i : ℕ) → q + header g s + i < length img → getD img (q + header g s + i) 0 ≡ 255 → (i < length pay → getD pay i 0 < 256)
-      → Partly pay i (getD (apply (take k (before g s t pay q)) img) (q + header g s + i) 0)
-  payload-partly k i hl blank small =
-      let l : Laid g s (length pay) = laid g s (length pay) (v .width-3) in
-      let T : List FlashUnit = typeUnits g t q in
-      let P : List FlashUnit = payUnits g s pay q in
-      let Z : List FlashUnit = sizeUnits g s (length pay) q in
-      let T₁ : List FlashUnit = take k (typeUnits g t q) in
-      let k₁ : ℕ = k - length (typeUnits g t q) in
-      let P₁ : List FlashUnit = take k₁ (payUnits g s pay q) in
-      let Z₁ : List FlashUnit = take (k₁ - length (payUnits g s pay q)) (sizeUnits g s (length pay) q) in
-      let cut : take k (before g s t pay q) ≡ T₁ ++ (P₁ ++ Z₁) = take-both k T (P ++ Z) ∙ ap (λ (us : List FlashUnit). T₁ ++ us) (take-both k₁ P Z) in
-      let ft : getD (apply T₁ img) (q + header g s + i) 0 ≡ getD img (q + header g s + i) 0 =
-      frame (q + header g s + i) 0 T₁ img (All-take (Misses (q + header g s + i)) k T (type-clear g s t q pay l (q + header g s + i) q (q + widthOf g) (omega arith) (omega arith) (inr (omega (arith, l))))) in
-      let fz : getD (apply Z₁ (apply P₁ (apply T₁ img))) (q + header g s + i) 0 ≡ getD (apply P₁ (apply T₁ img)) (q + header g s + i) 0 =
-      frame (q + header g s + i) 0 Z₁ (apply P₁ (apply T₁ img))
-      (All-take (Misses (q + header g s + i)) (k₁ - length P) Z (size-clear g s t q pay l (q + header g s + i) (q + sizeAt g) (q + header g s) (omega arith) (omega arith) (inr (omega arith)))) in
-      let e : getD (apply (take k (before g s t pay q)) img) (q + header g s + i) 0 ≡ getD (apply P₁ (apply T₁ img)) (q + header g s + i) 0 =
-      ap (λ (us : List FlashUnit). getD (apply us img) (q + header g s + i) 0) cut
-      ∙ ap (λ (m : List ℕ). getD m (q + header g s + i) 0) (apply-append T₁ (P₁ ++ Z₁) img ∙ apply-append P₁ Z₁ (apply T₁ img)) ∙ fz in
-      subst (λ (y : ℕ). Partly pay i y) (sym e)
-      (partly (widthOf g) (l .pos) (q + header g s) pay (apply T₁ img) i (omega (arith, length-apply T₁ img)) (ft ∙ blank) small k₁)
 
 -- ---- a payload found further on in itself is all FF
 

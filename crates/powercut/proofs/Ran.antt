@@ -40,10 +40,12 @@ use Rattle.medium.proofs.Writes.{write-ran}
 use Rattle.medium.proofs.Split.{units-split, none-stored, part-add}
 use Rattle.medium.proofs.Places.{width-is, Laid, laid, even-add}
 use Rattle.medium.proofs.Checks.{Fine, admit-pass, within, fine-of-check}
-use Rattle.powercut.proofs.Places.{span, tail-room, Floored, floored, far-from}
+use Rattle.fresh.specs.Units.{span}
+use Rattle.fresh.proofs.Places.{tail-room, Floored, floored, far-from}
 use Rattle.shown.proofs.Reading.{stateSeen, read-yes, state-read, headerOf}
 use Rattle.powercut.specs.Stores.{typeUnits, payUnits, sizeUnits, markUnits, deleteUnits, moveUnits}
-use Rattle.powercut.proofs.Crash.{Given, copy-free, inside}
+use Rattle.fresh.proofs.Written.{inside, still-free}
+use Rattle.powercut.proofs.Crash.{Given}
 
 -- what is held comes back as it was put away
 tail-held : (tl : List ℕ) → length tl ≤ 4 → take (length tl) (tailOf tl) ≡ tl
@@ -100,7 +102,7 @@ able g h to t pay img v =
       just-read = v .just-read;
       bytes-are = v .given .original .bytes-are;
       there = Free;
-      state-there = copy-free (g .granularity) (g .s) t (address g (h .location .block) (h .location .offset)) (address g (to .block) (to .offset)) (h .size) pay img (v .given);
+      state-there = still-free (g .granularity) (g .s) t (address g (to .block) (to .offset)) pay img (v .given .new);
       allocatable = refl;
     }
 
@@ -136,7 +138,7 @@ module _ (g : Geometry) (h : ObjectHeader) (to : ObjectLocation) (t : ObjectType
   fine-is = fine-of-check g (length img) (checkOf g (length img)) refl (fine-now)
 
   l : Laid (g .granularity) (g .s) (length pay)
-  l = laid (g .granularity) (g .s) (length pay) (v .ready .given .width-3)
+  l = laid (g .granularity) (g .s) (length pay) (v .ready .given .new .width-3)
 
   small : g .size ≤ 65536
   small = fine-is .sound .small

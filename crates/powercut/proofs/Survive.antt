@@ -1,8 +1,8 @@
 -- The demand, met: what a move stores, cut anywhere, leaves the object whole at one place or the other.
 use mathlib.Core.Path.{_≡_, refl, sym, ap, ap₂, _∙_, subst}
 use mathlib.Core.Logic.{_⊎_, inl, inr, _≢_}
-use mathlib.Core.List.{List, _++_, append-assoc, append-nil}
-use Prim.Native.Nat.{ℕ, _+_, _-_, _^_, _≤_, _<_}
+use mathlib.Core.List.{List, _++_, append-assoc}
+use Prim.Native.Nat.{ℕ, _+_, _-_, _≤_, _<_}
 use native.Mathlib.Omega.{arith}
 use lib.ListN.{length, take, getD, length-append}
 use lib.Seq.{take-append-le, take-all}
@@ -10,7 +10,7 @@ use Rattle.medium.specs.declared.granularity.Granularity.{Granularity}
 use Rattle.medium.specs.declared.geometry.Geometry.{Geometry}
 use Rattle.medium.specs.declared.fuse.Fuse.{Fuse}
 use Rattle.medium.specs.declared.fuse.Fuse.the-variants.{Absent, Units}
-use Rattle.medium.specs.Granularity.{widthOf, unitsIn, alignOf, finishAt, deleteAt, finishMark, sizeAt, header}
+use Rattle.medium.specs.Granularity.{widthOf, alignOf, finishAt, deleteAt, finishMark, header}
 use Rattle.medium.specs.Geometry.{checkOf, address}
 use Rattle.medium.specs.Units.{FlashUnit}
 use Rattle.medium.specs.Operation.{flash, apply, cost, prefix, done, refused, Run, End, cut, run}
@@ -20,23 +20,25 @@ use Rattle.objects.specs.declared.state.ObjectDataState.the-variants.{Untrusted
 use Rattle.objects.specs.declared.state.CompositeObjectState.the-variants.{Free, Allocated}
 use Rattle.objects.specs.declared.location.ObjectLocation.{ObjectLocation}
 use Rattle.objects.specs.declared.header.ObjectHeader.{ObjectHeader}
-use Rattle.objects.specs.Numbers.{bytes, unsetOf}
-use Rattle.objects.specs.Types.{typeByte}
+use Rattle.objects.specs.Numbers.{bytes}
 use Rattle.objects.specs.Header.{payloadOf}
 use Rattle.objects.specs.Info.{totalOf, spanOf}
 use Rattle.moving.specs.Moving.{moveObject}
 use Rattle.powercut.specs.Demand.{Whole, Unfinished, Gone, addressOf, payloadIn, copyOf, Clear, Movable, unitsBefore, unitsTo, Framed, Survives, Moved, Demand}
-use Rattle.objects.proofs.Numbers.{length-bytes}
 use Rattle.medium.proofs.Runs.{prefix-flash, cost-flash, leb-is, leb-yes, leb-no}
-use Rattle.medium.proofs.Bytes.{length-units, length-part, length-apply}
+use Rattle.medium.proofs.Bytes.{getD-part, length-part, length-apply}
 use Rattle.medium.proofs.Places.{Laid, laid, quad-even}
 use Rattle.medium.proofs.Checks.{Fine, within, fine-of-check}
-use Rattle.powercut.proofs.Places.{span, up-to, address-even}
-use Rattle.shown.proofs.Reading.{stateSeen, Stands, size-lt, payload-small, payload-set, Told, header-back, headerOf}
-use Rattle.powercut.proofs.Whole.{whole-of, unfinished-of, gone-of}
-use Rattle.powercut.specs.Stores.{typeUnits, payUnits, sizeUnits, markUnits, deleteUnits, before, moveUnits, Ordered}
+use Rattle.fresh.specs.Units.{span, newUnits}
+use Rattle.fresh.proofs.Places.{up-to, address-even}
+use Rattle.shown.proofs.Reading.{stateSeen, Stands, payload-set, Told, header-back, headerOf}
+use Rattle.shown.proofs.Whole.{whole-of, unfinished-of, gone-of}
+use Rattle.powercut.specs.Stores.{markUnits, deleteUnits, before, moveUnits, Ordered}
 use Rattle.powercut.specs.Call.{Survived}
-use Rattle.powercut.proofs.Crash.{one-long, copied, everything, original-before, copy-before, original-between, copy-between, original-after, size-after, copy-after, framed-copied, framed-moved}
+use Rattle.fresh.proofs.Written.{one-long, length-before, length-new, cut-all, unfinished, stands-new, framed}
+use Rattle.fresh.specs.Fresh.{Room}
+use Rattle.fresh.proofs.Fresh.{new-of}
+use Rattle.powercut.proofs.Crash.{original-before, original-between, original-after, size-after, copy-after, framed-moved}
 use Rattle.medium.proofs.Traced.{ran}
 use Rattle.powercut.proofs.Ran.{Ready, able, move-ran}
 
@@ -60,61 +62,35 @@ module _ (g : Geometry) (h : ObjectHeader) (to : ObjectLocation) (t : ObjectType
   us = moveUnits (g .granularity) (g .s) t pay p q
 
   abbrev pub all-copied : List FlashUnit
-  all-copied = copied (g .granularity) (g .s) t p q (h .size) pay img (r .given)
+  all-copied = newUnits (g .granularity) (g .s) t pay q
 
-  abbrev all-moved : List FlashUnit
-  all-moved = everything (g .granularity) (g .s) t p q (h .size) pay img (r .given)
-
-  -- ---- how long each part is
-
-  length-type : length (typeUnits gr t q) ≡ 1
-  length-type = one-long gr q (typeByte t)
-
-  length-pay : length (payUnits gr s pay q) ≡ unitsIn (widthOf gr) (length pay)
-  length-pay = length-units (widthOf gr) (q + header gr s) pay
-
-  length-size : length (sizeUnits gr s (length pay) q) ≡ unitsIn (widthOf gr) s
-  length-size = length-units (widthOf gr) (q + sizeAt gr) (bytes s (length pay)) ∙ ap (unitsIn (widthOf gr)) (length-bytes s (length pay))
-
-  length-mark : length (markUnits gr q) ≡ 1
-  length-mark = one-long gr (q + finishAt gr) (finishMark gr)
-
-  length-delete : length (deleteUnits gr p) ≡ 1
-  length-delete = one-long gr (p + deleteAt gr) 0
-
-  pub length-before : length (before gr s t pay q) ≡ N
-  length-before = simp length-append (omega (arith, length-type, length-pay, length-size))
+  -- ---- how many they are
 
   length-move : length us ≡ N + 2
-  length-move = simp length-append (omega (arith, length-type, length-pay, length-size, length-mark, length-delete))
-
-  pub length-copied : length all-copied ≡ N + 1
-  length-copied = simp length-append (omega (arith, length-type, length-pay, length-size, length-mark))
+  length-move =
+      omega (arith, length-append (before gr s t pay q) (markUnits gr q ++ deleteUnits gr p), length-append (markUnits gr q) (deleteUnits gr p), length-before gr s t q pay, one-long gr (q + finishAt gr) (finishMark gr), one-long gr (p + deleteAt gr) 0)
 
   pub as-copied : us ≡ all-copied ++ deleteUnits gr p
-  as-copied = simp (append-assoc, append-nil)
-
-  as-moved : us ≡ all-moved
-  as-moved = simp append-assoc
+  as-copied = sym (append-assoc (before gr s t pay q) (markUnits gr q) (deleteUnits gr p))
 
   -- ---- which units a cut leaves
 
   pub cut-before : (k : ℕ) → k ≤ N → take k us ≡ take k (before gr s t pay q)
-  cut-before k c = take-append-le k (before gr s t pay q) (markUnits gr q ++ deleteUnits gr p) (omega (arith, length-before))
+  cut-before k c = take-append-le k (before gr s t pay q) (markUnits gr q ++ deleteUnits gr p) (omega (arith, length-before gr s t q pay))
 
   pub cut-copied : (k : ℕ) → k ≤ N + 1 → take k us ≡ take k all-copied
-  cut-copied k c = ap (take k) as-copied ∙ take-append-le k all-copied (deleteUnits gr p) (omega (arith, length-copied))
+  cut-copied k c = ap (take k) as-copied ∙ take-append-le k all-copied (deleteUnits gr p) (omega (arith, length-new gr s t q pay))
 
   pub cut-between : (k : ℕ) → k ≡ N + 1 → take k us ≡ all-copied
-  cut-between k c = cut-copied k (omega arith) ∙ take-all k all-copied (omega (arith, length-copied))
+  cut-between k c = cut-copied k (omega arith) ∙ cut-all gr s t q pay k (omega arith)
 
-  cut-moved : (k : ℕ) → N + 2 ≤ k → take k us ≡ all-moved
-  cut-moved k c = take-all k us (omega (arith, length-move)) ∙ as-moved
+  cut-moved : (k : ℕ) → N + 2 ≤ k → take k us ≡ us
+  cut-moved k c = take-all k us (omega (arith, length-move))
 
   -- ---- how the two places read then
 
   l : Laid (g .granularity) (g .s) (length pay)
-  l = laid (g .granularity) (g .s) (length pay) (r .given .width-3)
+  l = laid (g .granularity) (g .s) (length pay) (r .given .new .width-3)
 
   still : (vs : List FlashUnit) → checkOf g (length (apply vs img)) ≡ 0
   still vs = ap (checkOf g) (length-apply vs img) ∙ r .fine
@@ -124,7 +100,7 @@ module _ (g : Geometry) (h : ObjectHeader) (to : ObjectLocation) (t : ObjectType
 
   -- the copy's size is set
   pub copy-size : payloadOf (g .s) (copyOf g h to) ≡ length pay
-  copy-size = payload-set (g .s) (copyOf g h to) (omega (arith, r .payload, r .given .small)) ∙ r .payload
+  copy-size = payload-set (g .s) (copyOf g h to) (omega (arith, r .payload, r .given .new .small)) ∙ r .payload
 
   pub original-whole : (vs : List FlashUnit) → Stands gr s p (Allocated t Valid) (h .size) pay (apply vs img) → Whole g h t pay (apply vs img)
   original-whole vs st = whole-of g (apply vs img) (still vs) h t pay (r .finished) (r .payload) (r .block) (omega (arith, l, r .in-block)) st
@@ -137,9 +113,9 @@ module _ (g : Geometry) (h : ObjectHeader) (to : ObjectLocation) (t : ObjectType
   pub copy-unfinished : (vs : List FlashUnit) → (stateSeen gr q (apply vs img) ≡ done Free) ⊎ (stateSeen gr q (apply vs img) ≡ done (Allocated t Untrusted)) → Unfinished g to t (apply vs img)
   copy-unfinished vs e = unfinished-of g (apply vs img) (still vs) to t (r .block-to) (omega (arith, l, r .in-block-to)) e
 
-  original-gone : Gone g h t (apply all-moved img)
+  original-gone : Gone g h t (apply us img)
   original-gone =
-      gone-of g (apply all-moved img) (still all-moved) h t (r .block) (omega (arith, l, r .in-block))
+      gone-of g (apply us img) (still us) h t (r .block) (omega (arith, l, r .in-block))
       (original-after gr s t p q (h .size) pay img (r .given)) (size-after gr s t p q (h .size) pay img (r .given))
 
   -- ---- the frame
@@ -156,7 +132,7 @@ module _ (g : Geometry) (h : ObjectHeader) (to : ObjectLocation) (t : ObjectType
     where
       go : (N + 2 ≤ k) ⊎ (k < N + 2) → getD (apply (take k us) img) j 0 ≡ getD img j 0
       go (inl x) = ap (λ (u : List FlashUnit). getD (apply u img) j 0) (cut-moved k x) ∙ framed-moved gr s t p q (h .size) pay img (r .given) j c ne
-      go (inr x) = ap (λ (u : List FlashUnit). getD (apply u img) j 0) (cut-copied k (omega arith)) ∙ framed-copied gr s t p q (h .size) pay img (r .given) k j c
+      go (inr x) = ap (λ (u : List FlashUnit). getD (apply u img) j 0) (cut-copied k (omega arith)) ∙ framed gr s t q pay img (r .given .new) k j c
 
   framed-at : (k : ℕ) → Framed g h to img (apply (take k us) img)
   framed-at k =
@@ -180,13 +156,13 @@ module _ (g : Geometry) (h : ObjectHeader) (to : ObjectLocation) (t : ObjectType
       record {
         before-mark = λ c. let x : k ≤ N = omega (arith, units-are) in
             subst (λ (m : List ℕ). Whole g h t pay m × Unfinished g to t m) (at (take k (before gr s t pay q)) (cut-before k x))
-            (original-whole (take k (before gr s t pay q)) (original-before gr s t p q (h .size) pay img (r .given) k), copy-unfinished (take k (before gr s t pay q)) (copy-before gr s t p q (h .size) pay img (r .given) k));
+            (original-whole (take k (before gr s t pay q)) (original-before gr s t p q (h .size) pay img (r .given) k), copy-unfinished (take k (before gr s t pay q)) (unfinished gr s t q pay img (r .given .new) k));
         between-marks = λ c. let x : k ≡ N + 1 = omega (arith, units-are) in
             subst (λ (m : List ℕ). Whole g h t pay m × Whole g (copyOf g h to) t pay m) (at all-copied (cut-between k x))
-            (original-whole all-copied (original-between gr s t p q (h .size) pay img (r .given)), copy-whole all-copied (copy-between gr s t p q (h .size) pay img (r .given)));
+            (original-whole all-copied (original-between gr s t p q (h .size) pay img (r .given)), copy-whole all-copied (stands-new gr s t q pay img (r .given .new)));
         after-marks = λ c. let x : N + 2 ≤ k = omega (arith, units-are) in
-            subst (λ (m : List ℕ). Gone g h t m × Whole g (copyOf g h to) t pay m) (at all-moved (cut-moved k x))
-            (original-gone, copy-whole all-moved (copy-after gr s t p q (h .size) pay img (r .given)));
+            subst (λ (m : List ℕ). Gone g h t m × Whole g (copyOf g h to) t pay m) (at us (cut-moved k x))
+            (original-gone, copy-whole us (copy-after gr s t p q (h .size) pay img (r .given)));
         framed = subst (λ (m : List ℕ). Framed g h to img m) (sym ei) (framed-at k);
         lost = λ c. lost (omega (arith, units-are));
         moved = λ c. let x = moved (omega (arith, units-are)) in (x .0, x .1 ∙ ap (λ (n : ℕ). Units (k - (n + 2))) (sym units-are));
@@ -212,8 +188,8 @@ module _ (g : Geometry) (h : ObjectHeader) (to : ObjectLocation) (t : ObjectType
       record {
         moved = refl;
         no-fuse = refl;
-        original = subst (λ (u : List FlashUnit). Gone g h t (apply u img)) (sym as-moved) original-gone;
-        copy = subst (λ (u : List FlashUnit). Whole g (copyOf g h to) t pay (apply u img)) (sym as-moved) (copy-whole all-moved (copy-after gr s t p q (h .size) pay img (r .given)));
+        original = original-gone;
+        copy = copy-whole us (copy-after gr s t p q (h .size) pay img (r .given));
         framed = subst (λ (u : List FlashUnit). Framed g h to img (apply u img)) (take-all (length us) us (omega arith)) (framed-at (length us));
       }
 
@@ -267,13 +243,19 @@ module _ (g : Geometry) (h : ObjectHeader) (to : ObjectLocation) (room : ℕ) (t
           (omega (arith, total-is)))
       go (inr c) = inr (omega (arith, room-is))
 
-  small-is : length (payloadIn g h img) < unsetOf (g .s)
-  unfolding payloadOf
-  small-is =
-      let l : Laid (g .granularity) (g .s) (payloadOf (g .s) h) = laid (g .granularity) (g .s) (payloadOf (g .s) h) (fine-is .sound .s-most) in
-      subst (λ (n : ℕ). n < unsetOf (g .s)) (sym long)
-      (payload-small (g .s) (h .size) (fine-is .sound .s-least) (fine-is .sound .s-most)
-      (subst (λ (n : ℕ). n < 256 ^ g .s) (told .size-is) (size-lt (g .granularity) (g .s) (addressOf g (h .location)) img (v .bytes) (omega (arith, l, in-image)))))
+  payload-bytes : (i : ℕ) → i < length (payloadIn g h img) → getD (payloadIn g h img) i 0 < 256
+  payload-bytes i c = rw (getD-part (address g (h .location .block) (h .location .offset + header (g .granularity) (g .s))) (payloadOf (g .s) h) img i 0 (omega (arith, long))) (v .bytes _)
+
+  -- the copy is a new object at its destination
+  pub room-for : Room g to (payloadIn g h img) img
+  room-for =
+      record {
+        fine = v .fine;
+        bytes = payload-bytes;
+        block = v .block;
+        in-block = omega (arith, room-is, v .in-block);
+        erased = λ i c. v .erased i (omega (arith, room-is));
+      }
 
   pub ready : Ready g h to t (payloadIn g h img) img
   ready =
@@ -294,8 +276,7 @@ module _ (g : Geometry) (h : ObjectHeader) (to : ObjectLocation) (room : ℕ) (t
         in-block-to = in-block-to;
         given =
             record {
-              some-width = fine-is .sound .s-least;
-              width-3 = fine-is .sound .s-most;
+              new = new-of g to (payloadIn g h img) img room-for;
               byte = v .bytes;
               original =
                   record {
@@ -303,10 +284,7 @@ module _ (g : Geometry) (h : ObjectHeader) (to : ObjectLocation) (room : ℕ) (t
                     size-is = told .size-is;
                     bytes-are = ap₂ (λ (a n : ℕ). part a n img) (sym at-payload) long;
                   };
-              small = small-is;
               original-fits = within (h .location .block) (h .location .offset) (span (g .granularity) (g .s) (length (payloadIn g h img))) (g .size) (g .count) (length img) (told .block) in-block (fine-is .whole);
-              copy-fits = within (to .block) (to .offset) (span (g .granularity) (g .s) (length (payloadIn g h img))) (g .size) (g .count) (length img) (v .block) in-block-to (fine-is .whole);
-              blank = λ i c. v .erased i (omega (arith, room-is));
               apart = apart-is;
             };
       }

@@ -5,62 +5,30 @@
 -- it is moved. Before the copy's finish mark is programmed, the original reads whole and the copy reads as free or unfinished. Between that
 -- mark and the original's delete mark, both read with equal type and payload. After that only the copy reads as finished, whole. No byte
 -- changes outside the destination span and the original's state mark."
+--
+-- How a place reads (`Whole`, `Unfinished`, `Gone`) is said in crates/shown/specs/Whole.antt.
 use mathlib.Core.Path.{_≡_}
 use mathlib.Core.Logic.{_⊎_, _≢_}
-use mathlib.Core.Bool.{false}
 use mathlib.Core.List.{List}
-use Prim.Native.Nat.{ℕ, _+_, _-_, _%_, _≤_, _<_, min}
+use Prim.Native.Nat.{ℕ, _+_, _-_, _%_, _≤_, _<_}
 use lib.ListN.{length, getD}
-use Rattle.medium.specs.declared.granularity.Granularity.{Granularity}
 use Rattle.medium.specs.declared.geometry.Geometry.{Geometry}
 use Rattle.medium.specs.declared.fuse.Fuse.the-variants.{Absent, Units}
-use Rattle.medium.specs.Granularity.{widthOf, unitsIn, deleteAt}
+use Rattle.medium.specs.Granularity.{widthOf, deleteAt}
 use Rattle.medium.specs.Geometry.{checkOf, address}
 use Rattle.medium.specs.Operation.{done, refused, End, run}
 use Rattle.medium.specs.Medium.{part}
 use Rattle.objects.specs.declared.types.ObjectType.{ObjectType}
-use Rattle.objects.specs.declared.state.ObjectDataState.the-variants.{Untrusted, Valid, Deleted}
+use Rattle.objects.specs.declared.state.ObjectDataState.the-variants.{Valid}
 use Rattle.objects.specs.declared.state.CompositeObjectState.the-variants.{Allocated}
 use Rattle.objects.specs.declared.location.ObjectLocation.{ObjectLocation}
 use Rattle.objects.specs.declared.header.ObjectHeader.{ObjectHeader}
-use Rattle.objects.specs.declared.reader.ObjectReader.{ObjectReader}
 use Rattle.objects.specs.Header.{headerAt, payloadOf}
-use Rattle.objects.specs.Info.{found, none, infoAt, totalOf, spanOf}
+use Rattle.objects.specs.Info.{totalOf, spanOf}
 use Rattle.objects.specs.Payload.{payloadAt}
-use Rattle.objects.specs.Reader.{readerAt, readSome}
 use Rattle.moving.specs.Moving.{moveObject}
-
--- ---- how a place reads
-
-abbrev pub readerOf : ObjectHeader → ℕ → ObjectReader
-readerOf h cursor = record { object = h; cursor = cursor }
-
--- a finished object reads whole: its header, its size, a reader of it, and each read of its payload, from any cursor into a buffer of any length
-pub record Whole (g : Geometry) (h : ObjectHeader) (t : ObjectType) (payload img : List ℕ) : Type 0 where
-  pub finished : h .state ≡ Allocated t Valid
-  pub header : headerAt g (h .location) img ≡ done h
-  pub info : infoAt g (h .location) img ≡ done (found h)
-  pub size : payloadOf (g .s) h ≡ length payload
-  pub reader : readerAt g (h .location) false img ≡ done (readerOf h 0)
-  pub reads : (cursor n : ℕ) → cursor ≤ length payload
-      → readSome g (readerOf h cursor) n img ≡ done (record { bytes = part cursor n payload; reader = readerOf h (cursor + min n (length payload - cursor)) })
-
--- a place reads as free, or as an object of this type that is not finished, and no reader of it is given
-pub record Unfinished (g : Geometry) (at : ObjectLocation) (t : ObjectType) (img : List ℕ) : Type 0 where
-  pub size : ℕ
-  pub info : (infoAt g at img ≡ done none) ⊎ (infoAt g at img ≡ done (found (record { state = Allocated t Untrusted; size = size; location = at })))
-  pub reader : readerAt g at false img ≡ refused 2
-
--- an object reads as deleted, and no reader of it is given
-pub record Gone (g : Geometry) (h : ObjectHeader) (t : ObjectType) (img : List ℕ) : Type 0 where
-  pub info : infoAt g (h .location) img ≡ done (found (record { state = Allocated t Deleted; size = h .size; location = h .location }))
-  pub reader : readerAt g (h .location) false img ≡ refused 2
-
--- ---- where things are
-
--- the address of an object's first byte in the image
-abbrev pub addressOf : Geometry → ObjectLocation → ℕ
-addressOf g at = address g (at .block) (at .offset)
+pub use Rattle.shown.specs.Whole.{readerOf, Whole, Unfinished, Gone}
+pub use Rattle.fresh.specs.Units.{addressOf, Clear, unitsBefore}
 
 -- the payload that the image has for a header
 abbrev pub payloadIn : Geometry → ObjectHeader → List ℕ → List ℕ
@@ -69,10 +37,6 @@ payloadIn g h img = part (address g (h .location .block) (payloadAt g h)) (paylo
 -- the header that the copy is to have
 abbrev pub copyOf : Geometry → ObjectHeader → ObjectLocation → ObjectHeader
 copyOf g h to = record { state = h .state; size = payloadOf (g .s) h; location = to }
-
--- an index outside an interval
-abbrev pub Clear : ℕ → ℕ → ℕ → Type 0
-Clear from to j = (j < from) ⊎ (to ≤ j)
 
 -- ---- what is given
 
@@ -96,10 +60,6 @@ pub record Movable (g : Geometry) (h : ObjectHeader) (to : ObjectLocation) (room
 -- ---- what is left
 
 -- the units of type, payload and size: all that is stored before the copy's finish mark, which is one unit more, as is the delete mark
-abbrev pub unitsBefore : Granularity → ℕ → ℕ → ℕ
-unitsBefore k s n = 1 + unitsIn (widthOf k) n + unitsIn (widthOf k) s
-
--- the same for the object of a header
 abbrev pub unitsTo : Geometry → ObjectHeader → ℕ
 unitsTo g h = unitsBefore (g .granularity) (g .s) (payloadOf (g .s) h)
 

@@ -3,10 +3,9 @@
 -- The unfinished copy has no size yet, so a listing steps over its header only and reads what is stored of its payload as headers. A payload
 -- that begins like text is no header: the listing is refused from the payload's first unit to its last.
 use mathlib.Core.Path.{_≡_}
-use mathlib.Core.Logic.{_⊎_, _≢_}
+use mathlib.Core.Logic.{_≢_}
 use mathlib.Core.List.{List}
-use Prim.Native.Nat.{ℕ, _+_, _≤_, _<_}
-use lib.ListN.{length, getD}
+use Prim.Native.Nat.{ℕ, _+_, _≤_}
 use Rattle.medium.specs.declared.geometry.Geometry.{Geometry}
 use Rattle.medium.specs.Granularity.{widthOf, unitsIn, header}
 use Rattle.medium.specs.Operation.{done}
@@ -16,7 +15,8 @@ use Rattle.objects.specs.declared.header.ObjectHeader.{ObjectHeader}
 use Rattle.objects.specs.Numbers.{unsetOf}
 use Rattle.objects.specs.Header.{payloadOf}
 use Rattle.objects.specs.Info.{found, infoAt}
-use Rattle.objects.specs.Listing.{Stop, end, free, broken, listing}
+use Rattle.objects.specs.Listing.{Stop, broken, listing}
+pub use Rattle.fresh.specs.Scans.{Ended, Text, Second}
 use Rattle.powercut.specs.Demand.{payloadIn, Movable, unitsTo}
 use Rattle.powercut.specs.Listed.{Listable}
 use Rattle.powercut.specs.Again.{leftBy}
@@ -25,25 +25,9 @@ use Rattle.powercut.specs.Again.{leftBy}
 abbrev pub stopAfter : Geometry → ObjectHeader → ObjectLocation → List ℕ → ℕ → Stop
 stopAfter g h to img k = listing g (to .block) (leftBy g h to img k) .stop
 
--- a listing that is not refused
-abbrev pub Ended : Stop → Type 0
-Ended s = (s ≡ end) ⊎ (s ≡ free)
-
--- some bytes, of which the first is no type and not FF
-pub record Text (bs : List ℕ) : Type 0 where
-  pub some : 0 < length bs
-  pub no-metadata : getD bs 0 0 ≢ 0x8F
-  pub no-data : getD bs 0 0 ≢ 0x8E
-  pub no-name : getD bs 0 0 ≢ 0x8D
-  pub no-blank : getD bs 0 0 ≢ 0xFF
-
 -- how many units the payload takes
 abbrev pub payloadUnits : Geometry → ObjectHeader → ℕ
 payloadUnits g h = unitsIn (widthOf (g .granularity)) (payloadOf (g .s) h)
-
--- whether a second header fits behind the copy's
-abbrev pub Second : Geometry → ObjectLocation → Type 0
-Second g to = to .offset + header (g .granularity) (g .s) + header (g .granularity) (g .s) < g .size
 
 pub record Scanned (g : Geometry) (h : ObjectHeader) (to : ObjectLocation) (img : List ℕ) : Type 0 where
   -- nothing is stored, or the type alone

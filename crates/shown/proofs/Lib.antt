@@ -2,3 +2,4 @@ pub mod Reading
 pub mod Agreeing
 pub mod Walk
 pub mod Steps
+pub mod Whole

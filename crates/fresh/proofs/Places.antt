@@ -10,11 +10,7 @@ use Rattle.medium.specs.declared.geometry.Geometry.{Geometry}
 use Rattle.medium.specs.Granularity.{widthOf, unitsIn, alignOf, header}
 use Rattle.medium.specs.Geometry.{address}
 use Rattle.medium.proofs.Places.{even-add, quad-even}
-use Rattle.powercut.specs.Demand.{Clear}
-
--- the bytes that an object with n bytes of payload takes, aligned up
-abbrev pub span : Granularity → ℕ → ℕ → ℕ
-span g s n = alignOf (widthOf g) (header g s + n)
+use Rattle.fresh.specs.Units.{span, Clear}
 
 -- ---- alignment
 

@@ -1,5 +1,4 @@
--- A finished object that stands in a block reads whole, an unfinished one is no reader's, and a deleted one is gone: the readers of
--- `specs/Demand.antt`.
+-- A finished object that stands in a block reads whole, an unfinished one is no reader's, and a deleted one is gone.
 use mathlib.Core.Path.{_≡_, refl, sym, ap, _∙_}
 use mathlib.Core.Logic.{_⊎_, inl, inr}
 use mathlib.Core.List.{List}
@@ -20,11 +19,11 @@ use Rattle.objects.specs.declared.header.ObjectHeader.{ObjectHeader}
 use Rattle.objects.specs.Header.{headerAt, payloadOf}
 use Rattle.objects.specs.Info.{infoAt}
 use Rattle.objects.specs.Reader.{readerAt, remainingOf, leftOf, readSome}
-use Rattle.powercut.specs.Demand.{readerOf, Whole, Unfinished, Gone}
+use Rattle.shown.specs.Whole.{readerOf, Whole, Unfinished, Gone}
 use Rattle.medium.proofs.Bytes.{part-is, getD-part}
 use Rattle.medium.proofs.Places.{Laid, laid}
 use Rattle.medium.proofs.Checks.{Sound, within, fine-of-check}
 use Rattle.shown.proofs.Reading.{stateSeen, sizeSeen, Stands, read-yes, header-read}
 
 -- a read of a payload that stands in the image
 part-of : (a c n : ℕ) (pay m : List ℕ) → part a (length pay) m ≡ pay → a + length pay ≤ length m → c ≤ length pay → part (a + c) (min n (length pay - c)) m ≡ part c n pay

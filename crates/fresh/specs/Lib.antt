@@ -1,0 +1,4 @@
+pub mod Units
+pub mod Fresh
+pub mod Writes
+pub mod Scans

@@ -1,0 +1,76 @@
+-- At which cuts the block of a new object can be listed, and so scanned, where the object goes to the free end of its block.
+--
+-- An unfinished object has no size until all of its payload is stored. A listing steps over its header alone, and reads the payload as headers.
+use mathlib.Core.Path.{_≡_}
+use mathlib.Core.Logic.{_⊎_, _≢_}
+use mathlib.Core.Bool.{false}
+use mathlib.Core.List.{List}
+use Prim.Native.Nat.{ℕ, _+_, _≤_, _<_}
+use lib.ListN.{length, getD}
+use Rattle.medium.specs.declared.geometry.Geometry.{Geometry}
+use Rattle.medium.specs.Granularity.{widthOf, unitsIn, header}
+use Rattle.medium.specs.Operation.{done}
+use Rattle.objects.specs.declared.types.ObjectType.{ObjectType}
+use Rattle.objects.specs.declared.location.ObjectLocation.{ObjectLocation}
+use Rattle.objects.specs.declared.header.ObjectHeader.{ObjectHeader}
+use Rattle.objects.specs.Numbers.{unsetOf}
+use Rattle.objects.specs.Info.{found, infoAt}
+use Rattle.objects.specs.Listing.{Stop, end, free, broken, listing}
+use Rattle.blocks.specs.declared.header.BlockType.{BlockType}
+use Rattle.blocks.specs.declared.header.BlockHeaderKind.the-variants.{Known}
+use Rattle.blocks.specs.declared.header.BlockHeader.{BlockHeader}
+use Rattle.blocks.specs.BlockHeader.{blockHeaderAt}
+use Rattle.blocks.specs.Scan.{listed, scanBlock}
+use Rattle.fresh.specs.Units.{addressOf}
+use Rattle.fresh.specs.Fresh.{after, marksAfter, Room}
+
+-- why the listing of the object's block stops after a cut at k units
+abbrev pub stopAt : Geometry → ObjectLocation → ObjectType → List ℕ → List ℕ → ℕ → Stop
+stopAt g at t pay img k = listing g (at .block) (after g at t pay img k) .stop
+
+-- a listing that is not refused
+abbrev pub Ended : Stop → Type 0
+Ended s = (s ≡ end) ⊎ (s ≡ free)
+
+-- some bytes, of which the first is no type and not FF
+pub record Text (bs : List ℕ) : Type 0 where
+  pub some : 0 < length bs
+  pub no-metadata : getD bs 0 0 ≢ 0x8F
+  pub no-data : getD bs 0 0 ≢ 0x8E
+  pub no-name : getD bs 0 0 ≢ 0x8D
+  pub no-blank : getD bs 0 0 ≢ 0xFF
+
+-- whether a second header fits behind the object's
+abbrev pub Second : Geometry → ObjectLocation → Type 0
+Second g at = at .offset + header (g .granularity) (g .s) + header (g .granularity) (g .s) < g .size
+
+-- a place where a listing of its block stops, with nothing but erased bytes up to the block's end
+pub record FreeEnd (g : Geometry) (at : ObjectLocation) (img : List ℕ) : Type 0 where
+  pub last : listing g (at .block) img .last ≡ at .offset
+  pub stop : listing g (at .block) img .stop ≡ free
+  pub erased : (i : ℕ) → at .offset + i < g .size → getD img (addressOf g at + i) 0 ≡ 255
+
+pub record Scanned (g : Geometry) (at : ObjectLocation) (t : ObjectType) (pay img : List ℕ) : Type 0 where
+  -- nothing is stored, or the type alone
+  pub begun : (k : ℕ) → k ≤ 1 → Ended (stopAt g at t pay img k)
+  -- from the first unit of the payload to its last: refused 2
+  pub text : Text pay → Second g at → (k : ℕ) → 2 ≤ k → k ≤ 1 + unitsIn (widthOf (g .granularity)) (length pay) → stopAt g at t pay img k ≡ broken 2
+  -- the size is stored, the finish mark or not
+  pub sized : (k : ℕ) → marksAfter g pay ≤ k → Ended (stopAt g at t pay img k)
+  -- while the bytes of a size of two or three bytes are stored: as long as it reads unset, refused 2, and not after that
+  pub unset : Text pay → Second g at → (k : ℕ) (o : ObjectHeader) → 2 ≤ k → k ≤ marksAfter g pay → infoAt g at (after g at t pay img k) ≡ done (found o)
+      → o .size ≡ unsetOf (g .s) → stopAt g at t pay img k ≡ broken 2
+  pub set : (k : ℕ) (o : ObjectHeader) → k ≤ marksAfter g pay → infoAt g at (after g at t pay img k) ≡ done (found o) → o .size ≢ unsetOf (g .s) → Ended (stopAt g at t pay img k)
+  -- where no second header fits, never
+  pub narrow : g .size ≤ at .offset + header (g .granularity) (g .s) + header (g .granularity) (g .s) → (k : ℕ) → Ended (stopAt g at t pay img k)
+
+unfoldable pub Scans : Type 0
+Scans = (g : Geometry) (at : ObjectLocation) (t : ObjectType) (pay img : List ℕ) → Room g at pay img → FreeEnd g at img → Scanned g at t pay img
+
+-- ---- the same of a scan, in a block of a known kind: its header is as it was, and the scan is read off the listing
+
+unfoldable pub Rescans : Type 0
+Rescans =
+    (g : Geometry) (at : ObjectLocation) (t : ObjectType) (pay img : List ℕ) → Room g at pay img → FreeEnd g at img
+    → (b : BlockHeader) (kind : BlockType) → blockHeaderAt g (at .block) img ≡ done b → b .kind ≡ Known kind
+    → (k : ℕ) → scanBlock g (at .block) (after g at t pay img k) ≡ listed b false (listing g (at .block) (after g at t pay img k))

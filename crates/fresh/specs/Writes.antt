@@ -1,0 +1,20 @@
+-- What a cut leaves of `write_to`, wherever it would be done with power: a new object, cut there. Where its place is erased, `Fresh` says what that
+-- reads as.
+use mathlib.Core.Path.{_≡_}
+use mathlib.Core.List.{List}
+use Prim.Native.Nat.{ℕ}
+use Rattle.medium.specs.declared.geometry.Geometry.{Geometry}
+use Rattle.medium.specs.declared.fuse.Fuse.the-variants.{Absent, Units}
+use Rattle.medium.specs.Operation.{apply, done, run}
+use Rattle.objects.specs.declared.types.ObjectType.{ObjectType}
+use Rattle.objects.specs.declared.location.ObjectLocation.{ObjectLocation}
+use Rattle.writer.specs.Writer.{writeTo}
+use Rattle.fresh.specs.Units.{addressOf, newUnits}
+use Rattle.fresh.specs.Fresh.{after}
+
+pub record WriteCut (g : Geometry) (at : ObjectLocation) (t : ObjectType) (src img : List ℕ) : Type 0 where
+  pub with-power : run Absent (writeTo g at t src) img .state ≡ apply (newUnits (g .granularity) (g .s) t src (addressOf g at)) img
+  pub cut-at : (k : ℕ) → run (Units k) (writeTo g at t src) img .state ≡ after g at t src img k
+
+unfoldable pub Writes : Type 0
+Writes = (g : Geometry) (at : ObjectLocation) (t : ObjectType) (src img : List ℕ) (n : ℕ) → writeTo g at t src img .answer ≡ done n → WriteCut g at t src img
