@@ -147,7 +147,7 @@ module _ (g : Geometry) (at : ObjectLocation) (t : ObjectType) (pay img : List �
   fuel = omega (arith, few, fits, ld)
 
   -- off the object's span a cut leaves every byte
-  off-object : (k j : ℕ) → Clear q (q + sp) j → getD (last k) j 0 ≡ getD img j 0
+  pub off-object : (k j : ℕ) → Clear q (q + sp) j → getD (last k) j 0 ≡ getD img j 0
   off-object k j d = framed gr (g .s) t q pay img new k j d
 
   abbrev from-there : ℕ → Listing
@@ -163,7 +163,7 @@ module _ (g : Geometry) (at : ObjectLocation) (t : ObjectType) (pay img : List �
   -- ---- behind it
 
   -- a place behind the object's span is free
-  behind-free : (k x : ℕ) → sp ≤ x → at .offset + x + H < g .size → infoAt g (place g dst (at .offset + x)) (last k) ≡ done none
+  pub behind-free : (k x : ℕ) → sp ≤ x → at .offset + x + H < g .size → infoAt g (place g dst (at .offset + x)) (last k) ≡ done none
   behind-free k x a b =
       let ad : address g dst (at .offset + x) ≡ q + x = omega arith in
       free-info g dst (at .offset + x) (last k) (fine k) (v .block) (omega (arith, ld))

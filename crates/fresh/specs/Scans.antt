@@ -4,25 +4,26 @@
 use mathlib.Core.Path.{_≡_}
 use mathlib.Core.Logic.{_⊎_, _≢_}
 use mathlib.Core.Bool.{false}
-use mathlib.Core.List.{List}
+use mathlib.Core.List.{List, [], _∷_, _++_}
 use Prim.Native.Nat.{ℕ, _+_, _≤_, _<_}
 use lib.ListN.{length, getD}
+use lib.Dec.{leb}
 use Rattle.medium.specs.declared.geometry.Geometry.{Geometry}
-use Rattle.medium.specs.Granularity.{widthOf, unitsIn, header}
+use Rattle.medium.specs.Granularity.{pick, widthOf, unitsIn, header}
 use Rattle.medium.specs.Operation.{done}
 use Rattle.objects.specs.declared.types.ObjectType.{ObjectType}
 use Rattle.objects.specs.declared.location.ObjectLocation.{ObjectLocation}
 use Rattle.objects.specs.declared.header.ObjectHeader.{ObjectHeader}
 use Rattle.objects.specs.Numbers.{unsetOf}
 use Rattle.objects.specs.Info.{found, infoAt}
-use Rattle.objects.specs.Listing.{Stop, end, free, broken, listing}
+use Rattle.objects.specs.Listing.{Stop, end, free, broken, Listing, listing}
 use Rattle.blocks.specs.declared.header.BlockType.{BlockType}
 use Rattle.blocks.specs.declared.header.BlockHeaderKind.the-variants.{Known}
 use Rattle.blocks.specs.declared.header.BlockHeader.{BlockHeader}
 use Rattle.blocks.specs.BlockHeader.{blockHeaderAt}
 use Rattle.blocks.specs.Scan.{listed, scanBlock}
-use Rattle.fresh.specs.Units.{addressOf}
-use Rattle.fresh.specs.Fresh.{after, marksAfter, Room}
+use Rattle.fresh.specs.Units.{addressOf, span}
+use Rattle.fresh.specs.Fresh.{after, newHeader, marksAfter, Room}
 
 -- why the listing of the object's block stops after a cut at k units
 abbrev pub stopAt : Geometry → ObjectLocation → ObjectType → List ℕ → List ℕ → ℕ → Stop
@@ -66,6 +67,32 @@ pub record Scanned (g : Geometry) (at : ObjectLocation) (t : ObjectType) (pay im
 
 unfoldable pub Scans : Type 0
 Scans = (g : Geometry) (at : ObjectLocation) (t : ObjectType) (pay img : List ℕ) → Room g at pay img → FreeEnd g at img → Scanned g at t pay img
+
+-- ---- the whole object is one visit more, and the listing ends behind it: at a free place where a header fits there, or at the block's end
+
+abbrev pub grown : Geometry → ObjectLocation → ObjectType → List ℕ → List ℕ → Listing
+grown g at t pay img =
+    let behind = at .offset + span (g .granularity) (g .s) (length pay) in
+    record {
+      visits = listing g (at .block) img .visits ++ (record { offset = at .offset; object = newHeader at t pay } ∷ []);
+      last = behind;
+      stop = pick (leb (g .size) (behind + header (g .granularity) (g .s))) end free;
+    }
+
+unfoldable pub Grows : Type 0
+Grows =
+    (g : Geometry) (at : ObjectLocation) (t : ObjectType) (pay img : List ℕ) → Room g at pay img → FreeEnd g at img → (k : ℕ) → marksAfter g pay + 1 ≤ k
+    → listing g (at .block) (after g at t pay img k) ≡ grown g at t pay img
+
+-- the place behind it
+abbrev pub behindIt : Geometry → ObjectLocation → List ℕ → ObjectLocation
+behindIt g at pay = record { block = at .block; offset = at .offset + span (g .granularity) (g .s) (length pay) }
+
+-- where a header fits there, it is a free end again
+unfoldable pub GoesOn : Type 0
+GoesOn =
+    (g : Geometry) (at : ObjectLocation) (t : ObjectType) (pay img : List ℕ) → Room g at pay img → FreeEnd g at img → (k : ℕ) → marksAfter g pay + 1 ≤ k
+    → behindIt g at pay .offset + header (g .granularity) (g .s) < g .size → FreeEnd g (behindIt g at pay) (after g at t pay img k)
 
 -- ---- the same of a scan, in a block of a known kind: its header is as it was, and the scan is read off the listing
 

@@ -2,15 +2,17 @@
 -- reads as.
 use mathlib.Core.Path.{_≡_}
 use mathlib.Core.List.{List}
-use Prim.Native.Nat.{ℕ}
+use Prim.Native.Nat.{ℕ, _+_, _%_}
+use lib.ListN.{length}
 use Rattle.medium.specs.declared.geometry.Geometry.{Geometry}
 use Rattle.medium.specs.declared.fuse.Fuse.the-variants.{Absent, Units}
+use Rattle.medium.specs.Granularity.{widthOf, header}
 use Rattle.medium.specs.Operation.{apply, done, run}
 use Rattle.objects.specs.declared.types.ObjectType.{ObjectType}
 use Rattle.objects.specs.declared.location.ObjectLocation.{ObjectLocation}
 use Rattle.writer.specs.Writer.{writeTo}
 use Rattle.fresh.specs.Units.{addressOf, newUnits}
-use Rattle.fresh.specs.Fresh.{after}
+use Rattle.fresh.specs.Fresh.{after, Room}
 
 pub record WriteCut (g : Geometry) (at : ObjectLocation) (t : ObjectType) (src img : List ℕ) : Type 0 where
   pub with-power : run Absent (writeTo g at t src) img .state ≡ apply (newUnits (g .granularity) (g .s) t src (addressOf g at)) img
@@ -18,3 +20,9 @@ pub record WriteCut (g : Geometry) (at : ObjectLocation) (t : ObjectType) (src i
 
 unfoldable pub Writes : Type 0
 Writes = (g : Geometry) (at : ObjectLocation) (t : ObjectType) (src img : List ℕ) (n : ℕ) → writeTo g at t src img .answer ≡ done n → WriteCut g at t src img
+
+-- at an erased and aligned place with room for it, it is done with power
+unfoldable pub WriteDone : Type 0
+WriteDone =
+    (g : Geometry) (at : ObjectLocation) (t : ObjectType) (src img : List ℕ) → Room g at src img → at .offset % widthOf (g .granularity) ≡ 0
+    → writeTo g at t src img .answer ≡ done (header (g .granularity) (g .s) + length src)

@@ -1,55 +1,48 @@
 -- What a copy and a move store with power: type, payload, size, finish mark, and then the original's delete mark; nothing else.
-use mathlib.Core.Path.{_≡_, refl, sym, ap, ap₂, _∙_, subst}
+use mathlib.Core.Path.{_≡_, refl, sym, ap, ap₂, _∙_}
 use mathlib.Core.Logic.{_⊎_, inl, inr}
-use mathlib.Core.Bool.{false, _&&_}
+use mathlib.Core.Bool.{false}
 use mathlib.Core.List.{List, [], _∷_, _++_, append-assoc, append-nil}
 use Prim.Native.Nat.{ℕ, zero, suc, _+_, _-_, _*_, _/_, _%_, _≤_, _<_, min}
 use native.Mathlib.Nat.{zero-mod}
 use native.Mathlib.Omega.{arith}
 use lib.ListN.{length, take, drop, getD, length-append, length-take, length-drop, take-append-drop}
-use lib.Seq.{take-append-le, take-take, take-length}
-use lib.Dec.{leb, ltb, eqb}
-use borrow.Author.Tests.{le-leb, lt-ltb, eq-eqb, ne-eqb}
 use Rattle.medium.specs.declared.granularity.Granularity.{Granularity}
 use Rattle.medium.specs.declared.geometry.Geometry.{Geometry}
-use Rattle.medium.specs.Granularity.{pick, widthOf, unitsIn, alignOf, finishAt, deleteAt, finishMark, sizeAt, header}
+use Rattle.medium.specs.Granularity.{widthOf, unitsIn, alignOf, deleteAt, header}
 use Rattle.medium.specs.Geometry.{checkOf, address}
 use Rattle.medium.specs.Units.{FlashUnit, unitsOf}
-use Rattle.medium.specs.Operation.{flash, apply, Answer, done, andThen, _>>=_, _>>_, ask, give, test}
+use Rattle.medium.specs.Operation.{flash, apply, Answer, done, andThen, _>>=_, _>>_, give, test}
 use Rattle.medium.specs.Medium.{part, readAt, write}
 use Rattle.objects.specs.declared.types.ObjectType.{ObjectType}
-use Rattle.objects.specs.declared.state.ObjectDataState.the-variants.{Untrusted, Valid, Deleted}
+use Rattle.objects.specs.declared.state.ObjectDataState.the-variants.{Valid, Deleted}
 use Rattle.objects.specs.declared.state.CompositeObjectState.{CompositeObjectState}
 use Rattle.objects.specs.declared.state.CompositeObjectState.the-variants.{Free, Allocated}
 use Rattle.objects.specs.declared.location.ObjectLocation.{ObjectLocation}
 use Rattle.objects.specs.declared.header.ObjectHeader.{ObjectHeader}
 use Rattle.objects.specs.declared.reader.ObjectReader.{ObjectReader}
-use Rattle.objects.specs.Numbers.{bytes, unsetOf}
 use Rattle.objects.specs.Types.{typeByte}
-use Rattle.objects.specs.Header.{stateAt, headerAt, payloadOf, allocatableOf, marking, stepTo, setState, sizableOf, withSize, setPayloadSize}
+use Rattle.objects.specs.Header.{headerAt, payloadOf, allocatableOf, marking, stepTo, setState}
 use Rattle.objects.specs.Reader.{readerAt}
 use Rattle.writer.specs.declared.writer.ObjectWriter.{ObjectWriter}
-use Rattle.writer.specs.Writer.{noTail, withHeader, soundOf, allocate, mayWrite, pendingOf, wholeOf, tailOf, putBytes, writeSome, mayFinish, flush, close, finalize}
+use Rattle.writer.specs.Writer.{allocate, writeSome, finalize}
 use Rattle.moving.specs.Moving.{sourceIn, sourceAt, chunk, turnsOf, copying, copyObject, moveObject}
 use Rattle.medium.proofs.Runs.{leb-is}
 use Rattle.medium.proofs.Bytes.{length-part, frame, length-apply}
 use Rattle.medium.proofs.Frame.{part-same}
-use Rattle.objects.proofs.Numbers.{length-bytes}
 use Rattle.medium.proofs.Traced.{ran, bind-ran, ask-ran, store-ran, tested, asked}
 use Rattle.medium.proofs.Writes.{write-ran}
-use Rattle.medium.proofs.Split.{units-split, none-stored, part-add}
-use Rattle.medium.proofs.Places.{width-is, Laid, laid, even-add}
-use Rattle.medium.proofs.Checks.{Fine, admit-pass, within, fine-of-check}
+use Rattle.medium.proofs.Split.{units-split, part-add}
+use Rattle.medium.proofs.Places.{Laid, laid, even-add}
+use Rattle.medium.proofs.Checks.{Fine, within, fine-of-check}
 use Rattle.fresh.specs.Units.{span}
-use Rattle.fresh.proofs.Places.{tail-room, Floored, floored, far-from}
-use Rattle.shown.proofs.Reading.{stateSeen, read-yes, state-read, headerOf}
+use Rattle.fresh.proofs.Places.{Floored, floored, far-from}
+use Rattle.shown.proofs.Reading.{stateSeen, read-yes, headerOf}
 use Rattle.powercut.specs.Stores.{typeUnits, payUnits, sizeUnits, markUnits, deleteUnits, moveUnits}
 use Rattle.fresh.proofs.Written.{inside, still-free}
+use Rattle.fresh.proofs.Ran.{Place}
+use Rattle.fresh.proofs.Ran as fresh
 use Rattle.powercut.proofs.Crash.{Given}
-
--- what is held comes back as it was put away
-tail-held : (tl : List ℕ) → length tl ≤ 4 → take (length tl) (tailOf tl) ≡ tl
-tail-held tl h = take-take (length tl) 4 (tl ++ noTail) h ∙ take-append-le (length tl) tl noTail (omega arith) ∙ take-length tl
 
 -- a reader of a finished object
 reader-of : (g : Geometry) (h : ObjectHeader) (t : ObjectType) (m : List ℕ) → headerAt g (h .location) m ≡ done h → h .state ≡ Allocated t Valid
@@ -140,11 +133,24 @@ module _ (g : Geometry) (h : ObjectHeader) (to : ObjectLocation) (t : ObjectType
   l : Laid (g .granularity) (g .s) (length pay)
   l = laid (g .granularity) (g .s) (length pay) (v .ready .given .new .width-3)
 
-  small : g .size ≤ 65536
-  small = fine-is .sound .small
+  -- the destination, for the writer of the copy
+  place-to : Place g to (length pay) (length img)
+  place-to = record { fine = fine-now; block = v .ready .block-to; aligned = v .ready .aligned-to; in-block = v .ready .in-block-to }
 
-  narrow : widthOf (g .granularity) ≤ 4
-  narrow = width-is (g .granularity) .1
+  abbrev writer : ℕ → List ℕ → ObjectWriter
+  writer cur tl = fresh.writer g to t pay (length img) place-to cur tl
+
+  abbrev whole : List ℕ → List ℕ → ℕ
+  whole tl c = fresh.whole g to t pay (length img) place-to tl c
+
+  abbrev copy : ObjectHeader
+  copy = headerOf (Allocated t Valid) (length pay) to
+
+  abbrev closing : List FlashUnit
+  closing = sizeUnits (g .granularity) (g .s) (length pay) q ++ markUnits (g .granularity) q
+
+  abbrev closed : ObjectWriter
+  closed = fresh.closed g to t pay (length img) place-to
 
   still : (m : List ℕ) → length m ≡ length img → checkOf g (length m) ≡ 0
   still m e = ap (checkOf g) e ∙ fine-now
@@ -152,70 +158,12 @@ module _ (g : Geometry) (h : ObjectHeader) (to : ObjectLocation) (t : ObjectType
   in-image : p + sp ≤ length img
   in-image = within (h .location .block) (h .location .offset) sp (g .size) (g .count) (length img) (v .ready .block) (v .ready .in-block) (fine-is .whole)
 
-  -- a store into the destination's block, or the original's
-  put : (m : List ℕ) (x : ℕ) (bs : List ℕ) → length m ≡ length img → x % w ≡ 0 → x + alignOf w (length bs) ≤ sp → write g (to .block) (to .offset + x) bs m ≡ ran (unitsOf w (q + x) bs) tt
-  put m x bs e a r =
-      let ad : address g (to .block) (to .offset + x) ≡ q + x = omega arith in
-      write-ran g (to .block) (to .offset + x) bs m (still m e) (v .ready .block-to) (even-add (g .granularity) (to .offset) x (v .ready .aligned-to) a) (omega (arith, v .ready .in-block-to))
-      ∙ ap (λ (i : ℕ). ran (unitsOf w i bs) tt) ad
-
+  -- a store into the original's block
   put-original : (m : List ℕ) (x : ℕ) (bs : List ℕ) → length m ≡ length img → x % w ≡ 0 → x + alignOf w (length bs) ≤ sp → write g b (off + x) bs m ≡ ran (unitsOf w (p + x) bs) tt
   put-original m x bs e a r =
       let ad : address g (h .location .block) (h .location .offset + x) ≡ p + x = omega arith in
       write-ran g (h .location .block) (h .location .offset + x) bs m (still m e) (v .ready .block) (even-add (g .granularity) (h .location .offset) x (v .ready .aligned) a) (omega (arith, v .ready .in-block))
       ∙ ap (λ (i : ℕ). ran (unitsOf w i bs) tt) ad
-
-  -- ---- the writer of the copy
-
-  abbrev begun : ObjectHeader
-  begun = headerOf (Allocated t Untrusted) (unsetOf (g .s)) to
-
-  abbrev writer : ℕ → List ℕ → ObjectWriter
-  writer cur tl = record { object = begun; cursor = cur; tail = tailOf tl; held = length tl; spent = false }
-
-  -- the last of it: nothing is held, and the header is the copy's
-  abbrev copy : ObjectHeader
-  copy = headerOf (Allocated t Valid) (length pay) to
-
-  sound-ran : (cur : ℕ) (tl m : List ℕ) → length m ≡ length img → length tl < w → cur ≤ g .size → soundOf (writer cur tl) g (length m) ≡ 0
-  unfolding soundOf
-  sound-ran cur tl m e lt c =
-      let c2 : cur ≤ 65536 = omega (arith, small) in
-      rw (admit-pass g (length m) (pick (ltb (length tl) w && leb cur 65536) 0 4) (checkOf g (length m)) refl (still m e), lt-ltb (length tl) w lt, le-leb cur 65536 c2)
-
-  -- ---- payload
-
-  some-test : (cur : ℕ) (tl c m : List ℕ) → length m ≡ length img → length tl < w → cur + length tl + length c ≤ length pay → mayWrite (writer cur tl) g (length m) (length c) ≡ 0
-  unfolding mayWrite
-  some-test cur tl c m e lt r =
-      let n1 : to .offset + H + cur + length tl ≤ g .size = omega (arith, l, v .ready .in-block-to) in
-      let n2 : to .offset + H + cur + length tl + length c ≤ g .size = omega (arith, l, v .ready .in-block-to) in
-      let n3 : cur ≤ g .size = omega (arith, l, v .ready .in-block-to) in
-      rw (sound-ran cur tl m e lt n3, le-leb _ _ n1, le-leb _ _ n2)
-
-  abbrev whole : List ℕ → List ℕ → ℕ
-  whole tl c = length (tl ++ c) - length (tl ++ c) % w
-
-  some-ran : (cur : ℕ) (tl c m : List ℕ) → length m ≡ length img → length tl < w → cur + length tl + length c ≤ length pay → cur % w ≡ 0
-      → writeSome g (writer cur tl) c m ≡ ran (unitsOf w (q + H + cur) (take (whole tl c) (tl ++ c))) (writer (cur + whole tl c) (drop (whole tl c) (tl ++ c)))
-  unfolding writeSome putBytes
-  some-ran cur tl c m e lt r z =
-      let wh : ℕ = whole tl c in
-      let f : Floored (g .granularity) (length (tl ++ c)) = floored (g .granularity) (length (tl ++ c)) in
-      let la : length (tl ++ c) ≡ length tl + length c = length-append tl c in
-      let lw : length (take wh (tl ++ c)) ≡ wh = simp length-take (omega arith) in
-      let n4 : length tl ≤ 4 = omega (arith, narrow) in
-      let ad : to .offset + H + cur ≡ to .offset + (H + cur) = omega arith in
-      let aq : q + (H + cur) ≡ q + H + cur = omega arith in
-      let even-at : (H + cur) % w ≡ 0 = even-add (g .granularity) H cur (l .header-even) z in
-      let fits : H + cur + alignOf w (length (take wh (tl ++ c))) ≤ sp = rw lw (omega (arith, l, f .even-units)) in
-      let st : write g (to .block) (to .offset + H + cur) (take wh (tl ++ c)) m ≡ ran (unitsOf w (q + H + cur) (take wh (tl ++ c))) tt =
-      ap (λ (i : ℕ). write g (to .block) i (take wh (tl ++ c)) m) ad ∙ put m (H + cur) (take wh (tl ++ c)) e even-at fits
-      ∙ ap (λ (i : ℕ). ran (unitsOf w i (take wh (tl ++ c))) tt) aq in
-      tested (λ i. mayWrite (writer cur tl) g (length i) (length c)) (putBytes g (writer cur tl) (wholeOf w (length (pendingOf (writer cur tl) c))) (pendingOf (writer cur tl) c)) m
-      (unitsOf w (q + H + cur) (take wh (tl ++ c))) (writer (cur + wh) (drop wh (tl ++ c))) (some-test cur tl c m e lt r)
-      (ap (λ (x : List ℕ). putBytes g (writer cur tl) (wholeOf w (length (x ++ c))) (x ++ c) m) (tail-held tl n4)
-      ∙ store-ran (write g (to .block) (to .offset + H + cur) (take wh (tl ++ c))) m (unitsOf w (q + H + cur) (take wh (tl ++ c))) (writer (cur + wh) (drop wh (tl ++ c))) st)
 
   -- a turn's units and those of the later turns are those of one store
   joined : (cur : ℕ) (tl c : List ℕ) (from n r : ℕ) → c ≡ part (address g b from) n img
@@ -312,7 +260,7 @@ module _ (g : Geometry) (h : ObjectHeader) (to : ObjectLocation) (t : ObjectType
   unfolding chunk
   chunk-ran cur tl from n c m e r hc lt hl z =
       asked (readAt g b from n) (λ bs. writeSome g (writer cur tl) bs) m (unitsOf w (q + H + cur) (take (whole tl c) (tl ++ c))) c (writer (cur + whole tl c) (drop (whole tl c) (tl ++ c)))
-      (read-yes g b from n m (still m e) (v .ready .block) r ∙ ap done (sym hc)) (some-ran cur tl c m e lt hl z)
+      (read-yes g b from n m (still m e) (v .ready .block) r ∙ ap done (sym hc)) (fresh.some-ran g to t pay (length img) place-to cur tl c m e lt hl z)
 
   -- one turn, from what the later turns leave; the chunk and the count are variables here, so that nothing is written out
   turn : (k cur : ℕ) (tl : List ℕ) (from rest : ℕ) (m : List ℕ) (n : ℕ) (c : List ℕ) → n ≡ min 16 rest → c ≡ part (address g b from) n m → c ≡ part (address g b from) n img
@@ -366,47 +314,6 @@ module _ (g : Geometry) (h : ObjectHeader) (to : ObjectLocation) (t : ObjectType
       (omega arith) (λ x. omega arith)
       (turn-kept cur tl rest (min 16 rest) c m (omega arith) lc e kept))
 
-  -- ---- the held tail, the size, the mark
-
-  abbrev closing : List FlashUnit
-  closing = sizeUnits (g .granularity) (g .s) (length pay) q ++ markUnits (g .granularity) q
-
-  flush-ran : (cur : ℕ) (tl m : List ℕ) → length m ≡ length img → cur + length tl ≡ length pay → cur % w ≡ 0 → length tl < w
-      → flush g (writer cur tl) m ≡ ran (unitsOf w (q + H + cur) tl) (writer (cur + length tl) [])
-  unfolding flush
-  flush-ran cur [] m e total z lt =
-      ask-ran (λ _. done (writer (cur + 0) [])) m (writer (cur + 0) []) refl
-      ∙ ap (λ (us : List FlashUnit). ran us (writer (cur + 0) [])) (sym (none-stored w (l .pos) (q + H + cur)))
-  flush-ran cur (x ∷ xs) m e total z lt =
-      let n4 : length (x ∷ xs) ≤ 4 = omega (arith, narrow) in
-      let ad : to .offset + H + cur ≡ to .offset + (H + cur) = omega arith in
-      let aq : q + (H + cur) ≡ q + H + cur = omega arith in
-      let fits : H + cur + alignOf w (length (x ∷ xs)) ≤ sp =
-      subst (λ (n : ℕ). H + cur + alignOf w (length (x ∷ xs)) ≤ span (g .granularity) (g .s) n) total (tail-room (g .granularity) (g .s) cur (length (x ∷ xs)) z) in
-      let st : write g (to .block) (to .offset + H + cur) (take (length (x ∷ xs)) (tailOf (x ∷ xs))) m ≡ ran (unitsOf w (q + H + cur) (x ∷ xs)) tt =
-      ap₂ (λ (i : ℕ) (bs : List ℕ). write g (to .block) i bs m) ad (tail-held (x ∷ xs) n4)
-      ∙ put m (H + cur) (x ∷ xs) e (even-add (g .granularity) H cur (l .header-even) z) fits
-      ∙ ap (λ (i : ℕ). ran (unitsOf w i (x ∷ xs)) tt) aq in
-      let held : length (x ∷ xs) ≡ 0 → ⊥ = λ n. omega arith in
-      rw (ne-eqb (length (x ∷ xs)) 0 held)
-      (store-ran (write g (to .block) (to .offset + H + cur) (take (length (x ∷ xs)) (tailOf (x ∷ xs)))) m (unitsOf w (q + H + cur) (x ∷ xs)) (writer (cur + length (x ∷ xs)) []) st)
-
-  size-ran : (n : ℕ) (m : List ℕ) → length m ≡ length img → setPayloadSize g begun n m ≡ ran (unitsOf w (q + sizeAt gr) (bytes (g .s) n)) (withSize begun n)
-  unfolding setPayloadSize sizableOf
-  size-ran n m e =
-      tested (λ i. sizableOf g begun (length i)) (write g (to .block) (to .offset + sizeAt gr) (bytes (g .s) n) >> give (withSize begun n)) m
-      (unitsOf w (q + sizeAt gr) (bytes (g .s) n)) (withSize begun n)
-      (rw (admit-pass g (length m) (pick (eqb (unsetOf (g .s)) (unsetOf (g .s))) 0 4) (checkOf g (length m)) refl (still m e), eq-eqb (unsetOf (g .s)) (unsetOf (g .s)) refl))
-      (store-ran (write g (to .block) (to .offset + sizeAt gr) (bytes (g .s) n)) m (unitsOf w (q + sizeAt gr) (bytes (g .s) n)) (withSize begun n)
-      (put m (sizeAt gr) (bytes (g .s) n) e (l .size-even) (rw (length-bytes (g .s) n) (omega (arith, l)))))
-
-  mark-ran : (n : ℕ) (m : List ℕ) → length m ≡ length img → setState g (withSize begun n) Valid m ≡ ran (markUnits gr q) (headerOf (Allocated t Valid) n to)
-  unfolding setState marking
-  mark-ran n m e =
-      tested (λ i. checkOf g (length i)) (marking g (withSize begun n) t Valid) m (markUnits gr q) (headerOf (Allocated t Valid) n to) (still m e)
-      (store-ran (write g (to .block) (to .offset + finishAt gr) (finishMark gr ∷ [])) m (markUnits gr q) (headerOf (Allocated t Valid) n to)
-      (put m (finishAt gr) (finishMark gr ∷ []) e (l .finish-even) (omega (arith, l))))
-
   pub delete-ran : (m : List ℕ) → length m ≡ length img → setState g h Deleted m ≡ ran (deleteUnits gr p) (headerOf (Allocated t Deleted) (h .size) (h .location))
   unfolding setState marking
   delete-ran m e =
@@ -415,55 +322,10 @@ module _ (g : Geometry) (h : ObjectHeader) (to : ObjectLocation) (t : ObjectType
       (store-ran (write g b (off + deleteAt gr) (0 ∷ [])) m (deleteUnits gr p) (headerOf (Allocated t Deleted) (h .size) (h .location))
       (put-original m (deleteAt gr) (0 ∷ []) e (l .delete-even) (omega (arith, l))))
 
-  -- the writer at last
-  abbrev closed : ObjectWriter
-  closed = withHeader (writer (length pay) []) copy
-
-  close-ran : (cur : ℕ) (tl m : List ℕ) → length m ≡ length img → cur + length tl ≡ length pay → cur % w ≡ 0 → length tl < w
-      → close g Valid (writer cur tl) m ≡ ran (unitsOf w (q + H + cur) tl ++ closing) closed
-  unfolding close
-  close-ran cur tl m e total z lt =
-      let u : List FlashUnit = unitsOf w (q + H + cur) tl in
-      let us : List FlashUnit = sizeUnits (g .granularity) (g .s) (length pay) q in
-      let e1 : length (apply u m) ≡ length img = length-apply u m ∙ e in
-      let e2 : length (apply us (apply u m)) ≡ length img = length-apply us (apply u m) ∙ e1 in
-      bind-ran (flush g (writer cur tl)) (λ x. setPayloadSize g (x .object) (x .cursor) >>= λ y. setState g y Valid >>= λ d. give (withHeader x d)) m
-      u closing (writer (length pay) []) closed
-      (flush-ran cur tl m e total z lt ∙ ap (λ (n : ℕ). ran u (writer n [])) total)
-      (bind-ran (setPayloadSize g begun (length pay)) (λ y. setState g y Valid >>= λ d. give (withHeader (writer (length pay) []) d)) (apply u m)
-      us (markUnits gr q) (withSize begun (length pay)) closed (size-ran (length pay) (apply u m) e1)
-      (bind-ran (setState g (withSize begun (length pay)) Valid) (λ d. give (withHeader (writer (length pay) []) d)) (apply us (apply u m))
-      (markUnits gr q) [] copy closed (mark-ran (length pay) (apply us (apply u m)) e2) (ask-ran (λ _. done closed) (apply (markUnits gr q) (apply us (apply u m))) closed refl)
-      ∙ ap (λ (x : List FlashUnit). ran x closed) (append-nil (markUnits gr q))))
-
-  finish-test : (cur : ℕ) (tl m : List ℕ) → length m ≡ length img → length tl < w → cur ≤ g .size → mayFinish (writer cur tl) g (length m) ≡ 0
-  unfolding mayFinish
-  finish-test cur tl m e lt c = rw (sound-ran cur tl m e lt c)
-
-  finalize-ran : (cur : ℕ) (tl m : List ℕ) → length m ≡ length img → cur + length tl ≡ length pay → cur % w ≡ 0 → length tl < w
-      → finalize g (writer cur tl) m ≡ ran (unitsOf w (q + H + cur) tl ++ closing) closed
-  unfolding finalize
-  finalize-ran cur tl m e total z lt =
-      tested (λ i. mayFinish (writer cur tl) g (length i)) (close g Valid (writer cur tl)) m (unitsOf w (q + H + cur) tl ++ closing) closed
-      (finish-test cur tl m e lt (omega (arith, l, v .ready .in-block-to))) (close-ran cur tl m e total z lt)
-
   -- ---- the whole
 
   source-ran : sourceAt g h img ≡ done (record { kind = t; size = length pay })
   source-ran = source-of g h t (length pay) img (v .just-read) (v .ready .finished) (v .ready .payload)
-
-  allocate-ran : allocate g to t img ≡ ran (typeUnits gr t q) (writer 0 [])
-  unfolding allocate
-  allocate-ran =
-      let ad : to .offset ≡ to .offset + 0 = omega arith in
-      let aq : q + 0 ≡ q = omega arith in
-      let st : write g (to .block) (to .offset) (typeByte t ∷ []) img ≡ ran (typeUnits gr t q) tt =
-      ap (λ (i : ℕ). write g (to .block) i (typeByte t ∷ []) img) ad ∙ put img 0 (typeByte t ∷ []) refl (zero-mod w) (omega (arith, l))
-      ∙ ap (λ (i : ℕ). ran (unitsOf w i (typeByte t ∷ [])) tt) aq in
-      asked (stateAt g to) (λ st. ask (λ _. allocatableOf t st) >> (write g (to .block) (to .offset) (typeByte t ∷ []) >> give (writer 0 []))) img (typeUnits gr t q) (v .there) (writer 0 [])
-      (state-read g to img (fine-now) (v .ready .block-to) (omega (arith, l, v .ready .in-block-to)) ∙ v .state-there)
-      (asked (λ _. allocatableOf t (v .there)) (λ _. write g (to .block) (to .offset) (typeByte t ∷ []) >> give (writer 0 [])) img (typeUnits gr t q) tt (writer 0 []) (v .allocatable)
-      (store-ran (write g (to .block) (to .offset) (typeByte t ∷ [])) img (typeUnits gr t q) (writer 0 []) st))
 
   first-kept : Kept (apply (typeUnits gr t q) img)
   first-kept = kept-on q (typeByte t ∷ []) img (omega arith) (omega (arith, l)) (record { length-kept = refl; bytes-kept = λ j x y. refl })
@@ -487,7 +349,7 @@ module _ (g : Geometry) (h : ObjectHeader) (to : ObjectLocation) (t : ObjectType
       bind-ran (copying (turnsOf (length pay)) g b (off + H) (length pay) (writer 0 [])) (λ x. finalize g x >>= λ y. give (y .object)) m
       (x .us) (u ++ closing) (writer (x .last-cur) (x .last-tl)) copy (x .ran-is)
       (bind-ran (finalize g (writer (x .last-cur) (x .last-tl))) (λ y. give (y .object)) i (u ++ closing) [] closed copy
-      (finalize-ran (x .last-cur) (x .last-tl) i e (x .total) (x .on-word) (x .short)) (ask-ran (λ _. done copy) (apply (u ++ closing) i) copy refl)
+      (fresh.finalize-ran g to t pay (length img) place-to (x .last-cur) (x .last-tl) i e (x .total) (x .on-word) (x .short)) (ask-ran (λ _. done copy) (apply (u ++ closing) i) copy refl)
       ∙ ap (λ (us : List FlashUnit). ran us copy) (append-nil (u ++ closing)))
       ∙ ap (λ (us : List FlashUnit). ran us copy)
       (sym (append-assoc (x .us) u closing) ∙ ap (λ (us : List FlashUnit). us ++ closing) (x .units-are ∙ ap₂ (unitsOf w) a2 pays))
@@ -502,7 +364,7 @@ module _ (g : Geometry) (h : ObjectHeader) (to : ObjectLocation) (t : ObjectType
       asked (sourceAt g h) (λ src. allocate g to (src .kind) >>= λ x. copying (turnsOf (src .size)) g b (off + H) (src .size) x >>= λ y. finalize g y >>= λ z. give (z .object)) img
       copyUnits (record { kind = t; size = length pay }) copy source-ran
       (bind-ran (allocate g to t) (λ x. copying (turnsOf (length pay)) g b (off + H) (length pay) x >>= λ y. finalize g y >>= λ z. give (z .object)) img
-      (typeUnits gr t q) (payUnits gr (g .s) pay q ++ closing) (writer 0 []) copy allocate-ran (rest-ran copied-all))
+      (typeUnits gr t q) (payUnits gr (g .s) pay q ++ closing) (writer 0 []) copy (fresh.allocate-ran g to t pay (length img) place-to img refl (v .there) (v .state-there) (v .allocatable)) (rest-ran copied-all))
 
   pub move-ran : moveObject g h to img ≡ ran (moveUnits gr (g .s) t pay p q) copy
   unfolding moveObject

@@ -11,6 +11,7 @@ use Rattle.medium.specs.Granularity.{header}
 use Rattle.medium.specs.Geometry.{checkOf}
 use Rattle.medium.specs.Operation.{Answer, done, refused}
 use Rattle.objects.specs.declared.header.ObjectHeader.{ObjectHeader}
+use Rattle.objects.specs.declared.iterator.ObjectIterator.{ObjectIterator}
 use Rattle.objects.specs.Info.{Info, found, none, infoAt}
 use Rattle.objects.specs.Listing.{placed, nextIn, Visit, end, free, broken, Listing, stopped, visited, listBy, listFrom, Met}
 use Rattle.medium.proofs.Runs.{leb-is}
@@ -61,12 +62,20 @@ module _ (g : Geometry) (b : ℕ) (m : List ℕ) (fine : checkOf g (length m) �
           let z : _≡_ {A = ℕ} 0 1 = cc in absurd (omega arith)
       go (inr c) rec = seen c (infoAt g (place g b o) m) refl rec
 
-  -- a listing that goes over a walk stops as it does from the end of the walk
-  pub stop-behind : (vs : List Visit) (o e n : ℕ) → Walked g b m o vs e → length vs ≤ n → listFrom n g (placed b o) m .stop ≡ listFrom (n - length vs) g (placed b e) m .stop
-  stop-behind [] o e n w h = ap₂ (λ (k x : ℕ). listFrom k g (placed b x) m .stop) (sym (sub-zero n)) w
-  stop-behind (v ∷ vs) o e zero w h = absurd (omega arith)
-  stop-behind (v ∷ vs) o e (suc n) w h =
+  -- what does not change by a visit is, of a listing that goes over a walk, what it is from the end of the walk
+  behind : {A : Type 0} (f : Listing → A) → ((i : ObjectIterator) (h : ObjectHeader) (l : Listing) → f (visited i h l) ≡ f l) → (vs : List Visit) (o e n : ℕ) → Walked g b m o vs e → length vs ≤ n
+      → f (listFrom n g (placed b o) m) ≡ f (listFrom (n - length vs) g (placed b e) m)
+  behind f keeps [] o e n w h = ap₂ (λ (k x : ℕ). f (listFrom k g (placed b x) m)) (sym (sub-zero n)) w
+  behind f keeps (v ∷ vs) o e zero w h = absurd (omega arith)
+  behind f keeps (v ∷ vs) o e (suc n) w h =
       let k : n - length vs ≡ suc n - suc (length vs) = omega arith in
-      ap (λ (x : Listing). x .stop) (at-object n o (w .2) (v .object) (w .1))
-      ∙ stop-behind vs (o + spanAt g b (v .object)) e n (w .3) (omega arith)
-      ∙ ap (λ (x : ℕ). listFrom x g (placed b e) m .stop) k
+      ap f (at-object n o (w .2) (v .object) (w .1))
+      ∙ keeps (placed b o) (v .object) (listFrom n g (placed b (o + spanAt g b (v .object))) m)
+      ∙ behind f keeps vs (o + spanAt g b (v .object)) e n (w .3) (omega arith)
+      ∙ ap (λ (x : ℕ). f (listFrom x g (placed b e) m)) k
+
+  pub stop-behind : (vs : List Visit) (o e n : ℕ) → Walked g b m o vs e → length vs ≤ n → listFrom n g (placed b o) m .stop ≡ listFrom (n - length vs) g (placed b e) m .stop
+  stop-behind = behind (λ x. x .stop) (λ i h l. refl)
+
+  pub last-behind : (vs : List Visit) (o e n : ℕ) → Walked g b m o vs e → length vs ≤ n → listFrom n g (placed b o) m .last ≡ listFrom (n - length vs) g (placed b e) m .last
+  last-behind = behind (λ x. x .last) (λ i h l. refl)
