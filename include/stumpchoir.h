@@ -1,4 +1,4 @@
-/* Stumpchoir for C: the low-level layer of norfs over an image in memory, proved. Made by tools/cface, as crates/cface is.
+/* Stumpchoir for C: the low-level layer of norfs over an image in memory, proved. Made by tools/cface, as crates/cface and cface_blocks are.
  *
  * A new store: fill an image with FF, stumpchoir_format_storage, then give each block that is to be used a type with
  * stumpchoir_set_block_type, since a formatted block is Undefined. The first object of a block goes right behind the block's header, at
@@ -14,9 +14,9 @@
  * its length is 0; no other may be. A length has to be that of the buffer, since no call can tell
  * a false one. Bytes to read or write that are longer than a block get 3, by a writer 5, even SIZE_MAX; that is all a test can see.
  * There is no heap and no state beside what is lent, so calls on different images may run at the same time. Calls take less than 16 KiB of
- * stack (8,488 bytes with the thread's own were measured by tools/c-sample).
+ * stack (8,424 bytes with the thread's own were measured by tools/c-sample).
  *
- * To link: `rt staticlib cface`, then cc prog.c target/staticlib/libcface.a (x86-64 Linux).
+ * To link: `tools/library`, then cc prog.c with each archive in target/staticlib (x86-64 Linux).
  */
 #ifndef STUMPCHOIR_H
 #define STUMPCHOIR_H

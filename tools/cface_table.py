@@ -265,6 +265,9 @@ COLLECTOR = [
          args='g, image, table, f', means='collect g', hand='stored'),
 ]
 
+# the crate that a module's functions are in, where it is not cface
+CRATES = {'block_calls': 'cface_blocks', 'record_calls': 'cface_blocks', 'collector_calls': 'cface_blocks'}
+
 GROUPS = [
     ('medium_calls', 'The medium for C.', '/* ---- The medium ---- */', MEDIUM),
     ('location_calls', 'Locations for C.', '/* ---- Locations ---- */', LOCATIONS),
@@ -335,7 +338,7 @@ ENUMS = {
         ('FOUND_NONE', 0), ('FOUND', 1), ('FOUND_END', 2)]),
 }
 
-HEAD = r"""/* Stumpchoir for C: the low-level layer of norfs over an image in memory, proved. Made by tools/cface, as crates/cface is.
+HEAD = r"""/* Stumpchoir for C: the low-level layer of norfs over an image in memory, proved. Made by tools/cface, as crates/cface and cface_blocks are.
  *
  * A new store: fill an image with FF, stumpchoir_format_storage, then give each block that is to be used a type with
  * stumpchoir_set_block_type, since a formatted block is Undefined. The first object of a block goes right behind the block's header, at
@@ -351,9 +354,9 @@ HEAD = r"""/* Stumpchoir for C: the low-level layer of norfs over an image in me
  * its length is 0; no other may be. A length has to be that of the buffer, since no call can tell
  * a false one. Bytes to read or write that are longer than a block get 3, by a writer 5, even SIZE_MAX; that is all a test can see.
  * There is no heap and no state beside what is lent, so calls on different images may run at the same time. Calls take less than 16 KiB of
- * stack (8,488 bytes with the thread's own were measured by tools/c-sample).
+ * stack (8,424 bytes with the thread's own were measured by tools/c-sample).
  *
- * To link: `rt staticlib cface`, then cc prog.c target/staticlib/libcface.a (x86-64 Linux).
+ * To link: `tools/library`, then cc prog.c with each archive in target/staticlib (x86-64 Linux).
  */
 #ifndef STUMPCHOIR_H
 #define STUMPCHOIR_H

@@ -33,7 +33,7 @@ use Rattle.blocks.specs.BlockHeader.{blockHeaderAt}
 use Rattle.blocks.specs.Scan.{listed, scanBlock}
 use Rattle.fresh.specs.Units.{addressOf, span, Clear, before}
 use Rattle.fresh.specs.Fresh.{after, newHeader, marksAfter, Room}
-use Rattle.fresh.specs.Scans.{stopAt, Ended, Text, Second, FreeEnd, Scanned, Scans, Rescans}
+use Rattle.fresh.specs.Scans.{stopAt, Ended, Text, Second, FreeEnd, CutListed, CutListings, CutScans}
 use Rattle.medium.proofs.Runs.{leb-is}
 use Rattle.medium.proofs.Bytes.{fits-up}
 use Rattle.medium.proofs.Places.{Laid, width-is, align-even, align-least, even-align}
@@ -274,8 +274,8 @@ module _ (g : Geometry) (at : ObjectLocation) (t : ObjectType) (pay img : List �
   narrow-all b zero = inr (w .stop)
   narrow-all b (suc k) = ended-at (suc k) (narrow-at b k)
 
-  scanned : Scanned g at t pay img
-  scanned =
+  cut-listed : CutListed g at t pay img
+  cut-listed =
       record {
         begun = begun-all;
         text = λ x second k a b. there k ∙ text-at x second k a b;
@@ -287,15 +287,15 @@ module _ (g : Geometry) (at : ObjectLocation) (t : ObjectType) (pay img : List �
 
   -- ---- a scan
 
-  rescanned : (b : BlockHeader) (kind : BlockType) → blockHeaderAt g (at .block) img ≡ done b → b .kind ≡ Known kind → (k : ℕ) → scanBlock g (at .block) (last k) ≡ listed b false (listing g (at .block) (last k))
-  rescanned b kind h known k =
+  cut-scanned : (b : BlockHeader) (kind : BlockType) → blockHeaderAt g (at .block) img ≡ done b → b .kind ≡ Known kind → (k : ℕ) → scanBlock g (at .block) (last k) ≡ listed b false (listing g (at .block) (last k))
+  cut-scanned b kind h known k =
       scan-by g (at .block) b (last k) (Known kind)
       (header-seen g (at .block) img (last k) (long g at pay img v t k) (λ o d. off-object k (address g (at .block) o) (inl (omega (arith, few)))) ∙ h) known
 
-pub scans : Scans
-unfolding Scans
-scans g at t pay img v w = scanned g at t pay img v w
+pub cut-listings : CutListings
+unfolding CutListings
+cut-listings g at t pay img v w = cut-listed g at t pay img v w
 
-pub rescans : Rescans
-unfolding Rescans
-rescans g at t pay img v w b kind h known k = rescanned g at t pay img v w b kind h known k
+pub cut-scans : CutScans
+unfolding CutScans
+cut-scans g at t pay img v w b kind h known k = cut-scanned g at t pay img v w b kind h known k

@@ -1,4 +1,4 @@
--- At which cuts the block of a new object can be listed, and so scanned, where the object goes to the free end of its block.
+-- At which cuts the block of a new object can be listed, and so cut-listed, where the object goes to the free end of its block.
 --
 -- An unfinished object has no size until all of its payload is stored. A listing steps over its header alone, and reads the payload as headers.
 use mathlib.Core.Path.{_≡_}
@@ -51,7 +51,7 @@ pub record FreeEnd (g : Geometry) (at : ObjectLocation) (img : List ℕ) : Type 
   pub stop : listing g (at .block) img .stop ≡ free
   pub erased : (i : ℕ) → at .offset + i < g .size → getD img (addressOf g at + i) 0 ≡ 255
 
-pub record Scanned (g : Geometry) (at : ObjectLocation) (t : ObjectType) (pay img : List ℕ) : Type 0 where
+pub record CutListed (g : Geometry) (at : ObjectLocation) (t : ObjectType) (pay img : List ℕ) : Type 0 where
   -- nothing is stored, or the type alone
   pub begun : (k : ℕ) → k ≤ 1 → Ended (stopAt g at t pay img k)
   -- from the first unit of the payload to its last: refused 2
@@ -65,8 +65,8 @@ pub record Scanned (g : Geometry) (at : ObjectLocation) (t : ObjectType) (pay im
   -- where no second header fits, never
   pub narrow : g .size ≤ at .offset + header (g .granularity) (g .s) + header (g .granularity) (g .s) → (k : ℕ) → Ended (stopAt g at t pay img k)
 
-unfoldable pub Scans : Type 0
-Scans = (g : Geometry) (at : ObjectLocation) (t : ObjectType) (pay img : List ℕ) → Room g at pay img → FreeEnd g at img → Scanned g at t pay img
+unfoldable pub CutListings : Type 0
+CutListings = (g : Geometry) (at : ObjectLocation) (t : ObjectType) (pay img : List ℕ) → Room g at pay img → FreeEnd g at img → CutListed g at t pay img
 
 -- ---- the whole object is one visit more, and the listing ends behind it: at a free place where a header fits there, or at the block's end
 
@@ -96,8 +96,8 @@ GoesOn =
 
 -- ---- the same of a scan, in a block of a known kind: its header is as it was, and the scan is read off the listing
 
-unfoldable pub Rescans : Type 0
-Rescans =
+unfoldable pub CutScans : Type 0
+CutScans =
     (g : Geometry) (at : ObjectLocation) (t : ObjectType) (pay img : List ℕ) → Room g at pay img → FreeEnd g at img
     → (b : BlockHeader) (kind : BlockType) → blockHeaderAt g (at .block) img ≡ done b → b .kind ≡ Known kind
     → (k : ℕ) → scanBlock g (at .block) (after g at t pay img k) ≡ listed b false (listing g (at .block) (after g at t pay img k))

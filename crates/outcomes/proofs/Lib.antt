@@ -6,6 +6,7 @@ pub mod Writer
 pub mod Blocks
 pub mod Collector
 pub mod Cface
+pub mod CfaceBlocks
 pub mod Lines
 pub mod Moving
 pub mod Powercut

@@ -31,17 +31,17 @@ use Rattle.shown.proofs.Steps.{at-end, at-object, at-free, at-broken}
 
 module _ (g : Geometry) (b : ℕ) (img last : List ℕ) (fine : checkOf g (length img) ≡ 0) where
   -- what is read from an offset on lies in the part up to another, or goes up to the block's end at most
-  abbrev pub Room : ℕ → ℕ → ℕ → Type 0
-  Room o n e = (o + n ≤ e) ⊎ (e ≡ g .size)
+  abbrev pub Within : ℕ → ℕ → ℕ → Type 0
+  Within o n e = (o + n ≤ e) ⊎ (e ≡ g .size)
 
-  reach : (o n e : ℕ) → Room o n e → (x : ℕ) → x ≤ n → o + x ≤ g .size → o + x ≤ e
+  reach : (o n e : ℕ) → Within o n e → (x : ℕ) → x ≤ n → o + x ≤ g .size → o + x ≤ e
   reach o n e (inl r) x h k = omega arith
   reach o n e (inr r) x h k = omega arith
 
   plain : sizeAt (g .granularity) + g .s ≤ header (g .granularity) (g .s)
   plain = laid (g .granularity) (g .s) 0 (short-size g (length img) fine) .size-plain
 
-  module _ (o n e : ℕ) (r : Room o n e) (h : header (g .granularity) (g .s) ≤ n) (f : Agree g b o e img last) where
+  module _ (o n e : ℕ) (r : Within o n e) (h : header (g .granularity) (g .s) ≤ n) (f : Agree g b o e img last) where
     state-in : o + sizeAt (g .granularity) ≤ g .size → o + sizeAt (g .granularity) ≤ e
     state-in = reach o n e r (sizeAt (g .granularity)) (omega (arith, plain))
 
@@ -55,7 +55,7 @@ module _ (g : Geometry) (b : ℕ) (img last : List ℕ) (fine : checkOf g (lengt
     info-same = info-agree g (place g b o) e img last f state-in size-in
 
   payload-same : (o e : ℕ) (st : CompositeObjectState) (size : ℕ) → headerAt g (place g b o) img ≡ done (headerOf st size (place g b o))
-      → Room o (header (g .granularity) (g .s) + payloadOf (g .s) (headerOf st size (place g b o))) e → Agree g b o e img last → payloadRead g (place g b o) last ≡ payloadRead g (place g b o) img
+      → Within o (header (g .granularity) (g .s) + payloadOf (g .s) (headerOf st size (place g b o))) e → Agree g b o e img last → payloadRead g (place g b o) last ≡ payloadRead g (place g b o) img
   unfolding payloadRead readerAt
   payload-same o e st size k r f =
       rw (header-same o (header (g .granularity) (g .s) + payloadOf (g .s) (headerOf st size (place g b o))) e r (omega arith) f, k)
@@ -70,7 +70,7 @@ module _ (g : Geometry) (b : ℕ) (img last : List ℕ) (fine : checkOf g (lengt
 
   -- a visit counts alike
   copy-same : (t : ObjectType) (pay : List ℕ) (o e : ℕ) (h : ObjectHeader) → infoAt g (place g b o) img ≡ done (found h)
-      → Room o (header (g .granularity) (g .s) + payloadOf (g .s) h) e → Agree g b o e img last → isCopy g b t pay last (visit g b o h) ≡ isCopy g b t pay img (visit g b o h)
+      → Within o (header (g .granularity) (g .s) + payloadOf (g .s) h) e → Agree g b o e img last → isCopy g b t pay last (visit g b o h) ≡ isCopy g b t pay img (visit g b o h)
   unfolding isCopy payloadOf
   copy-same t pay o e h i r f =
       let k : headerAt g (place g b o) img ≡ done h = info-back g b o img h i in

@@ -187,11 +187,11 @@ module _ (g : Geometry) (h : ObjectHeader) (to : ObjectLocation) (t : ObjectType
       ∙ ap (unitsOf w A) (z1 ∙ append-assoc tl c y ∙ ap (λ (r : List ℕ). tl ++ r) z2)
 
   -- an image that has the original's bytes still
-  record Kept (m : List ℕ) : Type 0 where
+  record Holds (m : List ℕ) : Type 0 where
     length-kept : length m ≡ length img
     bytes-kept : (j : ℕ) → p ≤ j → j < p + sp → getD m j 0 ≡ getD img j 0
 
-  kept-on : (a : ℕ) (bs m : List ℕ) → q ≤ a → a + unitsIn w (length bs) * w ≤ q + sp → Kept m → Kept (apply (unitsOf w a bs) m)
+  kept-on : (a : ℕ) (bs m : List ℕ) → q ≤ a → a + unitsIn w (length bs) * w ≤ q + sp → Holds m → Holds (apply (unitsOf w a bs) m)
   kept-on a bs m h1 h2 k =
       record {
         length-kept = length-apply (unitsOf w a bs) m ∙ k .length-kept;
@@ -200,15 +200,15 @@ module _ (g : Geometry) (h : ObjectHeader) (to : ObjectLocation) (t : ObjectType
             ∙ k .bytes-kept j x y;
       }
 
-  chunk-long : (from n : ℕ) (m : List ℕ) → from + n ≤ off + sp → Kept m → length (part (address g b from) n m) ≡ n
+  chunk-long : (from n : ℕ) (m : List ℕ) → from + n ≤ off + sp → Holds m → length (part (address g b from) n m) ≡ n
   chunk-long from n m r kept = length-part (address g b from) n m (omega (arith, kept .length-kept, in-image))
 
-  chunk-same : (from n : ℕ) (m : List ℕ) → off ≤ from → from + n ≤ off + sp → Kept m → part (address g b from) n m ≡ part (address g b from) n img
+  chunk-same : (from n : ℕ) (m : List ℕ) → off ≤ from → from + n ≤ off + sp → Holds m → part (address g b from) n m ≡ part (address g b from) n img
   chunk-same from n m h1 h2 kept =
       part-same (address g b from) n img m (kept .length-kept) (omega (arith, in-image)) (λ j x y. kept .bytes-kept j (omega arith) (omega arith))
 
   -- what the copying loop leaves: its units, and a writer whose tail completes the payload
-  record Copied (k cur : ℕ) (tl : List ℕ) (from rest : ℕ) (m : List ℕ) : Type 0 where
+  record Looped (k cur : ℕ) (tl : List ℕ) (from rest : ℕ) (m : List ℕ) : Type 0 where
     us : List FlashUnit
     last-cur : ℕ
     last-tl : List ℕ
@@ -222,8 +222,8 @@ module _ (g : Geometry) (h : ObjectHeader) (to : ObjectLocation) (t : ObjectType
       → cur + whole tl c + length (drop (whole tl c) (tl ++ c)) + (rest - 16) ≡ length pay
   turn-total cur tl rest n c hn lc e = simp length-drop (omega (arith, length-append tl c))
 
-  turn-kept : (cur : ℕ) (tl : List ℕ) (rest n : ℕ) (c m : List ℕ) → n ≤ rest → length c ≡ n → cur + length tl + rest ≡ length pay → Kept m
-      → Kept (apply (unitsOf w (q + H + cur) (take (whole tl c) (tl ++ c))) m)
+  turn-kept : (cur : ℕ) (tl : List ℕ) (rest n : ℕ) (c m : List ℕ) → n ≤ rest → length c ≡ n → cur + length tl + rest ≡ length pay → Holds m
+      → Holds (apply (unitsOf w (q + H + cur) (take (whole tl c) (tl ++ c))) m)
   turn-kept cur tl rest n c m hn lc e kept =
       let lw : length (take (whole tl c) (tl ++ c)) ≡ whole tl c = simp length-take (omega arith) in
       kept-on (q + H + cur) (take (whole tl c) (tl ++ c)) m (omega arith)
@@ -265,8 +265,8 @@ module _ (g : Geometry) (h : ObjectHeader) (to : ObjectLocation) (t : ObjectType
   -- one turn, from what the later turns leave; the chunk and the count are variables here, so that nothing is written out
   turn : (k cur : ℕ) (tl : List ℕ) (from rest : ℕ) (m : List ℕ) (n : ℕ) (c : List ℕ) → n ≡ min 16 rest → c ≡ part (address g b from) n m → c ≡ part (address g b from) n img
       → length c ≡ n → length m ≡ length img → cur + length tl + rest ≡ length pay → cur % w ≡ 0 → length tl < w → from + n ≤ g .size
-      → Copied k (cur + whole tl c) (drop (whole tl c) (tl ++ c)) (from + 16) (rest - 16) (apply (unitsOf w (q + H + cur) (take (whole tl c) (tl ++ c))) m)
-      → Copied (suc k) cur tl from rest m
+      → Looped k (cur + whole tl c) (drop (whole tl c) (tl ++ c)) (from + 16) (rest - 16) (apply (unitsOf w (q + H + cur) (take (whole tl c) (tl ++ c))) m)
+      → Looped (suc k) cur tl from rest m
   unfolding copying
   turn k cur tl from rest m n c hn hc ec lc lm e z lt r ih =
       record {
@@ -284,7 +284,7 @@ module _ (g : Geometry) (h : ObjectHeader) (to : ObjectLocation) (t : ObjectType
         short = ih .short;
       }
 
-  none-left : (cur : ℕ) (tl : List ℕ) (from rest : ℕ) (m : List ℕ) → rest ≡ 0 → cur + length tl + rest ≡ length pay → cur % w ≡ 0 → length tl < w → Copied zero cur tl from rest m
+  none-left : (cur : ℕ) (tl : List ℕ) (from rest : ℕ) (m : List ℕ) → rest ≡ 0 → cur + length tl + rest ≡ length pay → cur % w ≡ 0 → length tl < w → Looped zero cur tl from rest m
   unfolding copying
   none-left cur tl from rest m r e z lt =
       record {
@@ -299,7 +299,7 @@ module _ (g : Geometry) (h : ObjectHeader) (to : ObjectLocation) (t : ObjectType
       }
 
   loop : (k cur : ℕ) (tl : List ℕ) (from rest : ℕ) (m : List ℕ) → turnsOf rest ≡ k → cur + length tl + rest ≡ length pay → cur % w ≡ 0 → length tl < w
-      → off ≤ from → (0 < rest → from + rest ≤ off + sp) → Kept m → Copied k cur tl from rest m
+      → off ≤ from → (0 < rest → from + rest ≤ off + sp) → Holds m → Looped k cur tl from rest m
   loop zero cur tl from rest m hk e z lt h1 h2 kept = none-left cur tl from rest m (omega arith) e z lt
   loop (suc k) cur tl from rest m hk e z lt h1 h2 kept =
       let r : from + rest ≤ off + sp = h2 (omega arith) in
@@ -327,15 +327,15 @@ module _ (g : Geometry) (h : ObjectHeader) (to : ObjectLocation) (t : ObjectType
   source-ran : sourceAt g h img ≡ done (record { kind = t; size = length pay })
   source-ran = source-of g h t (length pay) img (v .just-read) (v .ready .finished) (v .ready .payload)
 
-  first-kept : Kept (apply (typeUnits gr t q) img)
+  first-kept : Holds (apply (typeUnits gr t q) img)
   first-kept = kept-on q (typeByte t ∷ []) img (omega arith) (omega (arith, l)) (record { length-kept = refl; bytes-kept = λ j x y. refl })
 
-  copied-all : Copied (turnsOf (length pay)) 0 [] (off + H) (length pay) (apply (typeUnits gr t q) img)
+  copied-all : Looped (turnsOf (length pay)) 0 [] (off + H) (length pay) (apply (typeUnits gr t q) img)
   copied-all =
       loop (turnsOf (length pay)) 0 [] (off + H) (length pay) (apply (typeUnits gr t q) img) refl (omega arith) (zero-mod w) (omega (arith, l)) (omega arith) (λ x. omega (arith, l)) first-kept
 
   -- payload as one store, then the size, then the mark
-  rest-ran : Copied (turnsOf (length pay)) 0 [] (off + H) (length pay) (apply (typeUnits gr t q) img)
+  rest-ran : Looped (turnsOf (length pay)) 0 [] (off + H) (length pay) (apply (typeUnits gr t q) img)
       → (copying (turnsOf (length pay)) g b (off + H) (length pay) (writer 0 []) >>= λ x. finalize g x >>= λ y. give (y .object)) (apply (typeUnits gr t q) img)
       ≡ ran (payUnits gr (g .s) pay q ++ closing) copy
   rest-ran x =

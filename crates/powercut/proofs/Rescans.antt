@@ -28,11 +28,11 @@ use Rattle.powercut.proofs.Scans.{room-is, end-is, n-is, p-is, as-new, 
 module _ (g : Geometry) (h : ObjectHeader) (to : ObjectLocation) (room : ℕ) (t : ObjectType) (img : List ℕ) (v : Movable g h to room t img) (w : Listable g h to room img)
     (b : BlockHeader) (kind : BlockType) (there : blockHeaderAt g (to .block) img ≡ done b) (known : b .kind ≡ Known kind) where
   scan-reads : (k : ℕ) → k ≤ unitsTo g h + 1 → scanBlock g (to .block) (leftBy g h to img k) ≡ listed b false (listing g (to .block) (leftBy g h to img k))
-  unfolding fresh.Rescans
+  unfolding fresh.CutScans
   scan-reads k c =
       let e : leftBy g h to img k ≡ after g to t (payloadIn g h img) img k = as-new g h to room t img v w k (omega (arith, n-is g h to room t img v w)) in
       subst (λ (m : List ℕ). scanBlock g (to .block) m ≡ listed b false (listing g (to .block) m)) (sym e)
-      (cut.rescans g to t (payloadIn g h img) img (room-is g h to room t img v w) (end-is g h to room t img v w) b kind there known k)
+      (cut.cut-scans g to t (payloadIn g h img) img (room-is g h to room t img v w) (end-is g h to room t img v w) b kind there known k)
 
   rescanned : Rescanned g h to img b
   unfolding Scans

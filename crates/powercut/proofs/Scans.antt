@@ -102,9 +102,9 @@ module _ (g : Geometry) (h : ObjectHeader) (to : ObjectLocation) (room : ℕ) (t
   info-new : (k : ℕ) (o : ObjectHeader) → k ≤ N g h to t pay img r + 1 → infoAt g to (leftBy g h to img k) ≡ done (found o) → infoAt g to (after g to t pay img k) ≡ done (found o)
   info-new k o c i = ap (infoAt g to) (sym (as-new k c)) ∙ i
 
-  new-scanned : fresh.Scanned g to t (payloadIn g h img) img
-  unfolding fresh.Scans
-  new-scanned = cut.scans g to t pay img room-is end-is
+  new-scanned : fresh.CutListed g to t (payloadIn g h img) img
+  unfolding fresh.CutListings
+  new-scanned = cut.cut-listings g to t pay img room-is end-is
 
   -- ---- after the delete mark: the original reads deleted, and is stepped over as before
 
