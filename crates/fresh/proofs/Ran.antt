@@ -7,7 +7,6 @@ use Prim.Native.Nat.{ℕ, _+_, _-_, _*_, _/_, _%_, _≤_, _<_}
 use native.Mathlib.Nat.{zero-mod}
 use native.Mathlib.Omega.{arith}
 use lib.ListN.{length, take, drop, length-append, length-take, length-drop, take-append-drop}
-use lib.Seq.{take-append-le, take-take, take-length}
 use lib.Dec.{leb, ltb, eqb}
 use borrow.Author.Tests.{le-leb, lt-ltb, eq-eqb, ne-eqb}
 use Rattle.medium.specs.declared.granularity.Granularity.{Granularity}
@@ -28,7 +27,7 @@ use Rattle.objects.specs.Types.{typeByte}
 use Rattle.objects.specs.Header.{stateAt, allocatableOf, marking, setState, sizableOf, withSize, setPayloadSize}
 use Rattle.objects.specs.Info.{totalOf}
 use Rattle.writer.specs.declared.writer.ObjectWriter.{ObjectWriter}
-use Rattle.writer.specs.Writer.{noTail, withHeader, soundOf, allocate, mayWrite, pendingOf, wholeOf, tailOf, putBytes, writeSome, mayFinish, flush, close, finalize, writeTo}
+use Rattle.writer.specs.Writer.{withHeader, soundOf, allocate, mayWrite, pendingOf, wholeOf, tailOf, putBytes, writeSome, mayFinish, flush, close, finalize, writeTo}
 use Rattle.fresh.specs.Units.{span, typeUnits, payUnits, sizeUnits, markUnits, newUnits}
 use Rattle.medium.proofs.Bytes.{length-apply}
 use Rattle.medium.proofs.Traced.{ran, bind-ran, ask-ran, store-ran, tested, asked}
@@ -38,11 +37,8 @@ use Rattle.medium.proofs.Places.{width-is, Laid, laid, even-add}
 use Rattle.medium.proofs.Checks.{Fine, admit-pass, fine-of-check}
 use Rattle.objects.proofs.Numbers.{length-bytes}
 use Rattle.shown.proofs.Reading.{stateSeen, state-read, headerOf}
+use Rattle.writer.proofs.Units.{tail-back}
 use Rattle.fresh.proofs.Places.{tail-room, Floored, floored}
-
--- what is held comes back as it was put away
-tail-held : (tl : List ℕ) → length tl ≤ 4 → take (length tl) (tailOf tl) ≡ tl
-tail-held tl h = take-take (length tl) 4 (tl ++ noTail) h ∙ take-append-le (length tl) tl noTail (omega arith) ∙ take-length tl
 
 -- a place of a block for n bytes of payload, in an image of some length
 pub record Place (g : Geometry) (at : ObjectLocation) (n room : ℕ) : Type 0 where
@@ -138,7 +134,7 @@ module _ (g : Geometry) (at : ObjectLocation) (t : ObjectType) (pay : List ℕ) 
       ∙ ap (λ (i : ℕ). ran (unitsOf w i (take wh (tl ++ c))) tt) aq in
       tested (λ i. mayWrite (writer cur tl) g (length i) (length c)) (putBytes g (writer cur tl) (wholeOf w (length (pendingOf (writer cur tl) c))) (pendingOf (writer cur tl) c)) m
       (unitsOf w (q + H + cur) (take wh (tl ++ c))) (writer (cur + wh) (drop wh (tl ++ c))) (some-test cur tl c m e lt r)
-      (ap (λ (x : List ℕ). putBytes g (writer cur tl) (wholeOf w (length (x ++ c))) (x ++ c) m) (tail-held tl n4)
+      (ap (λ (x : List ℕ). putBytes g (writer cur tl) (wholeOf w (length (x ++ c))) (x ++ c) m) (tail-back tl n4)
       ∙ store-ran (write g (at .block) (at .offset + H + cur) (take wh (tl ++ c))) m (unitsOf w (q + H + cur) (take wh (tl ++ c))) (writer (cur + wh) (drop wh (tl ++ c))) st)
 
   -- ---- the held tail, the size, the mark
@@ -159,7 +155,7 @@ module _ (g : Geometry) (at : ObjectLocation) (t : ObjectType) (pay : List ℕ) 
       let fits : H + cur + alignOf w (length (x ∷ xs)) ≤ sp =
       subst (λ (n : ℕ). H + cur + alignOf w (length (x ∷ xs)) ≤ span (g .granularity) (g .s) n) total (tail-room (g .granularity) (g .s) cur (length (x ∷ xs)) z) in
       let st : write g (at .block) (at .offset + H + cur) (take (length (x ∷ xs)) (tailOf (x ∷ xs))) m ≡ ran (unitsOf w (q + H + cur) (x ∷ xs)) tt =
-      ap₂ (λ (i : ℕ) (bs : List ℕ). write g (at .block) i bs m) ad (tail-held (x ∷ xs) n4)
+      ap₂ (λ (i : ℕ) (bs : List ℕ). write g (at .block) i bs m) ad (tail-back (x ∷ xs) n4)
       ∙ put m (H + cur) (x ∷ xs) e (even-add (g .granularity) H cur (l .header-even) z) fits
       ∙ ap (λ (i : ℕ). ran (unitsOf w i (x ∷ xs)) tt) aq in
       let held : length (x ∷ xs) ≡ 0 → ⊥ = λ n. omega arith in

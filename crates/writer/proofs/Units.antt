@@ -1,7 +1,7 @@
 -- An object that is written whole stores type, payload, size and mark, in that order and nothing else.
 use mathlib.Core.Path.{_≡_, refl, sym, ap, ap₂, _∙_}
 use mathlib.Core.List.{List, [], _∷_, _++_, append-assoc}
-use Prim.Native.Nat.{ℕ, zero, suc, _+_, _-_, _*_, _/_, _≤_}
+use Prim.Native.Nat.{ℕ, _+_, _-_, _*_, _/_, _≤_}
 use native.Mathlib.Omega.{arith}
 use lib.ListN.{length, take, drop, length-append, length-drop, take-append-drop}
 use lib.Seq.{take-take, take-append-seam, length-take-le}
@@ -27,6 +27,7 @@ use Rattle.medium.proofs.Runs.{bound}
 use Rattle.medium.proofs.Bytes.{length-units, length-apply}
 use Rattle.medium.proofs.Places.{width-is}
 use Rattle.medium.proofs.Split.{units-split}
+use Rattle.objects.proofs.Numbers.{length-bytes}
 use Rattle.writer.specs.declared.writer.ObjectWriter.{ObjectWriter}
 use Rattle.writer.specs.Writer.{freshOf, dataAt, noTail, tailOf, mayWrite, allocate, wholeOf, pendingOf, heldBack, putBytes, writeSome, finalize, writeTo}
 use Rattle.writer.specs.Units.{objectUnits, unitCount, Written}
@@ -36,7 +37,7 @@ use Rattle.writer.proofs.Stored.{Stores, then, then-give, gave, none-re
 
 -- ---- the payload: the whole words and then the tail are all of it
 
-tail-back : (bs : List ℕ) → length bs ≤ 4 → take (length bs) (tailOf bs) ≡ bs
+pub tail-back : (bs : List ℕ) → length bs ≤ 4 → take (length bs) (tailOf bs) ≡ bs
 tail-back bs h = take-take (length bs) 4 (bs ++ noTail) h ∙ take-append-seam bs noTail
 
 payload-whole : (g : Geometry) (b o : ℕ) (src : List ℕ)
@@ -102,10 +103,6 @@ module _ (g : Geometry) (at : ObjectLocation) (t : ObjectType) (src : List ℕ) 
       ∙ ap₂ (λ (us : List FlashUnit) (n : ℕ). record { events = us; answer = done (totalOf (g .granularity) (g .s) (record { state = comp.Allocated t Valid; size = n; location = at })) }) events behind-size
 
 -- ---- how many they are
-
-length-bytes : (s n : ℕ) → length (bytes s n) ≡ s
-length-bytes zero n = refl
-length-bytes (suc s) n = ap suc (length-bytes s (n / 256))
 
 count-is : (k : Granularity) (s n : ℕ) → 1 ≤ s → s ≤ 3
     → unitsIn (widthOf k) 1 + unitsIn (widthOf k) n + unitsIn (widthOf k) s + unitsIn (widthOf k) 1 ≡ unitCount k s n
