@@ -4,7 +4,7 @@ use mathlib.Core.Logic.{_⊎_}
 use mathlib.Core.List.{List}
 use Prim.Native.Nat.{ℕ, _+_, _≤_, _<_}
 use native.Mathlib.Omega.{arith}
-use lib.ListN.{length, take}
+use lib.ListN.{length, take, getD}
 use Rattle.medium.specs.declared.geometry.Geometry.{Geometry}
 use Rattle.medium.specs.Geometry.{checkOf}
 use Rattle.medium.specs.Units.{FlashUnit}
@@ -21,7 +21,7 @@ use Rattle.fresh.specs.Fresh.{after, newHeader, marksAfter, Room, Fresh}
 use Rattle.medium.proofs.Bytes.{length-apply}
 use Rattle.medium.proofs.Places.{Laid, laid}
 use Rattle.medium.proofs.Checks.{Fine, within, fine-of-check}
-use Rattle.shown.proofs.Reading.{stateSeen, Stands, limit-is, unset-is, payload-set}
+use Rattle.shown.proofs.Reading.{stateSeen, Stands, stands-same, limit-is, unset-is, payload-set}
 use Rattle.shown.proofs.Whole.{whole-of, unfinished-of}
 use Rattle.fresh.proofs.Written.{New, unfinished, stands-new, framed, cut-before, cut-all}
 
@@ -65,11 +65,19 @@ module _ (g : Geometry) (at : ObjectLocation) (pay img : List ℕ) (v : Room g a
     pub size-set : payloadOf (g .s) (newHeader at t pay) ≡ length pay
     size-set = payload-set (g .s) (newHeader at t pay) small
 
-    pub with-mark : (k : ℕ) → marksAfter g pay + 1 ≤ k → Whole g (newHeader at t pay) t pay (after g at t pay img k)
-    with-mark k c =
-        whole-of g (after g at t pay img k) (still k) (newHeader at t pay) t pay refl size-set (v .block) (omega (arith, laid-out, v .in-block))
+    -- an image that has the whole object's bytes
+    stays : (k : ℕ) → marksAfter g pay + 1 ≤ k → (other : List ℕ) → length other ≡ length img
+        → ((j : ℕ) → addressOf g at ≤ j → j < addressOf g at + span (g .granularity) (g .s) (length pay) → getD other j 0 ≡ getD (after g at t pay img k) j 0)
+        → Whole g (newHeader at t pay) t pay other
+    stays k c other l same =
+        whole-of g other (ap (checkOf g) l ∙ v .fine) (newHeader at t pay) t pay refl size-set (v .block) (omega (arith, laid-out, v .in-block))
+        (stands-same (after g at t pay img k) other (l ∙ sym (long k)) (g .granularity) (g .s) (addressOf g at) (Allocated t Valid) (length pay) pay laid-out
+        (omega (arith, long k, laid-out, new-of .fits)) (λ j a b. same j a (omega (arith, laid-out)))
         (subst (λ (us : List FlashUnit). Stands (g .granularity) (g .s) (addressOf g at) (Allocated t Valid) (length pay) pay (apply us img))
-        (sym (cut-all (g .granularity) (g .s) t (addressOf g at) pay k c)) (stands-new (g .granularity) (g .s) t (addressOf g at) pay img new-of))
+        (sym (cut-all (g .granularity) (g .s) t (addressOf g at) pay k c)) (stands-new (g .granularity) (g .s) t (addressOf g at) pay img new-of)))
+
+    pub with-mark : (k : ℕ) → marksAfter g pay + 1 ≤ k → Whole g (newHeader at t pay) t pay (after g at t pay img k)
+    with-mark k c = stays k c (after g at t pay img k) (long k) (λ _ _ _. refl)
 
 pub fresh : Fresh
 unfolding Fresh
@@ -77,6 +85,7 @@ fresh g at t pay img v =
     record {
       before-mark = before-mark g at pay img v t;
       with-mark = with-mark g at pay img v t;
+      stays = stays g at pay img v t;
       long = long g at pay img v t;
       elsewhere = framed (g .granularity) (g .s) t (addressOf g at) pay img (new-of g at pay img v);
     }

@@ -6,3 +6,4 @@ pub mod Ran
 pub mod Writes
 pub mod Scans
 pub mod Grows
+pub mod Again

@@ -38,6 +38,10 @@ pub record Room (g : Geometry) (at : ObjectLocation) (pay img : List ℕ) : Type
 pub record Cut (g : Geometry) (at : ObjectLocation) (t : ObjectType) (pay img : List ℕ) : Type 0 where
   pub before-mark : (k : ℕ) → k ≤ marksAfter g pay → Unfinished g at t (after g at t pay img k)
   pub with-mark : (k : ℕ) → marksAfter g pay + 1 ≤ k → Whole g (newHeader at t pay) t pay (after g at t pay img k)
+  -- and so it stays, whatever changes elsewhere
+  pub stays : (k : ℕ) → marksAfter g pay + 1 ≤ k → (other : List ℕ) → length other ≡ length img
+      → ((j : ℕ) → addressOf g at ≤ j → j < addressOf g at + span (g .granularity) (g .s) (length pay) → getD other j 0 ≡ getD (after g at t pay img k) j 0)
+      → Whole g (newHeader at t pay) t pay other
   pub long : (k : ℕ) → length (after g at t pay img k) ≡ length img
   pub elsewhere : (k j : ℕ) → Clear (addressOf g at) (addressOf g at + span (g .granularity) (g .s) (length pay)) j
       → getD (after g at t pay img k) j 0 ≡ getD img j 0

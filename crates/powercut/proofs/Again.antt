@@ -7,13 +7,12 @@ use Prim.Native.Nat.{ℕ, _+_, _≤_, max}
 use native.Mathlib.Omega.{arith}
 use lib.ListN.{length, take}
 use lib.Seq.{take-all}
-use borrow.Author.Tests.{eq-eqb}
 use Rattle.medium.specs.All.{All}
 use Rattle.medium.specs.declared.granularity.Granularity.{Granularity}
 use Rattle.medium.specs.declared.geometry.Geometry.{Geometry}
 use Rattle.medium.specs.declared.fuse.Fuse.{Fuse}
 use Rattle.medium.specs.declared.fuse.Fuse.the-variants.{Absent, Units}
-use Rattle.medium.specs.Granularity.{widthOf, finishAt, deleteAt, finishMark, sizeAt, header}
+use Rattle.medium.specs.Granularity.{widthOf, deleteAt}
 use Rattle.medium.specs.Geometry.{checkOf}
 use Rattle.medium.specs.Units.{FlashUnit}
 use Rattle.medium.specs.Operation.{flash, apply, done, refused, End, next, run, _>>=_, _>>_, ask, give}
@@ -24,7 +23,6 @@ use Rattle.objects.specs.declared.state.CompositeObjectState.{CompositeObjectSt
 use Rattle.objects.specs.declared.state.CompositeObjectState.the-variants.{Free, Allocated}
 use Rattle.objects.specs.declared.location.ObjectLocation.{ObjectLocation}
 use Rattle.objects.specs.declared.header.ObjectHeader.{ObjectHeader}
-use Rattle.objects.specs.Numbers.{bytes}
 use Rattle.objects.specs.Types.{typeByte}
 use Rattle.objects.specs.Header.{stateAt, allocatableOf, setState}
 use Rattle.objects.specs.Payload.{payloadAt}
@@ -32,7 +30,7 @@ use Rattle.writer.specs.declared.writer.ObjectWriter.{ObjectWriter}
 use Rattle.writer.specs.Writer.{freshOf, allocate, finalize}
 use Rattle.moving.specs.Moving.{sourceAt, turnsOf, copying, copyObject, moveObject}
 use Rattle.powercut.specs.Demand.{addressOf, payloadIn, copyOf, unitsTo}
-use Rattle.powercut.specs.Stores.{typeUnits, payUnits, sizeUnits, markUnits, deleteUnits, before}
+use Rattle.powercut.specs.Stores.{markUnits, deleteUnits, before}
 use Rattle.powercut.specs.Again.{leftBy, goneOf, Resumes, Completes, Again}
 use Rattle.medium.proofs.Runs.{apply-append, run-bind, ask-on, ask-stop}
 use Rattle.medium.proofs.Bytes.{All-append, length-apply}
@@ -41,19 +39,12 @@ use Rattle.medium.proofs.Programs.{Programs, store-programs, cut-twice}
 use Rattle.medium.proofs.Traced.{ran, state-cut, power-cut, same-cut}
 use Rattle.shown.proofs.Reading.{stateSeen, Stands, state-read}
 use Rattle.fresh.proofs.Written.{unfinished, stands-new}
+use Rattle.fresh.proofs.Again.{over-begun, over-free, before-programs, mark-programs}
 use Rattle.powercut.proofs.Crash.{original-before, original-between}
 use Rattle.powercut.proofs.Ran.{Ready, Able, able, source-of, move-ran, delete-ran}
 use Rattle.powercut.proofs.Survive.{N, us, all-copied, as-copied, cut-before, cut-between, units-are, copy-is, original-whole, move-traced, ready}
 
--- ---- an unfinished object of the same type can be allocated over; a finished one cannot
-
-over-begun : (t : ObjectType) → allocatableOf t (Allocated t Untrusted) ≡ done tt
-unfolding allocatableOf
-over-begun t = rw (eq-eqb (typeByte t) (typeByte t) refl)
-
-over-free : (t : ObjectType) → allocatableOf t Free ≡ done tt
-unfolding allocatableOf
-over-free t = refl
+-- ---- a finished object cannot be allocated over
 
 over-finished : (t : ObjectType) → allocatableOf t (Allocated t Valid) ≡ refused 4
 unfolding allocatableOf
@@ -99,11 +90,8 @@ module _ (g : Geometry) (h : ObjectHeader) (to : ObjectLocation) (t : ObjectType
 
   all-program : All Programs units
   all-program =
-      All-append Programs (before gr (g .s) t pay q) (markUnits gr q ++ deleteUnits gr p)
-      (All-append Programs (typeUnits gr t q) (payUnits gr (g .s) pay q ++ sizeUnits gr (g .s) (length pay) q) (store-programs (widthOf gr) q (typeByte t ∷ []))
-      (All-append Programs (payUnits gr (g .s) pay q) (sizeUnits gr (g .s) (length pay) q) (store-programs (widthOf gr) (q + header gr (g .s)) pay)
-      (store-programs (widthOf gr) (q + sizeAt gr) (bytes (g .s) (length pay)))))
-      (All-append Programs (markUnits gr q) (deleteUnits gr p) (store-programs (widthOf gr) (q + finishAt gr) (finishMark gr ∷ [])) (store-programs (widthOf gr) (p + deleteAt gr) (0 ∷ [])))
+      All-append Programs (before gr (g .s) t pay q) (markUnits gr q ++ deleteUnits gr p) (before-programs gr (g .s) t pay q)
+      (All-append Programs (markUnits gr q) (deleteUnits gr p) (mark-programs gr (g .s) t pay q) (store-programs (widthOf gr) (p + deleteAt gr) (0 ∷ [])))
 
   abbrev at-cut : ℕ → List ℕ
   at-cut k = apply (take k (us g h to t pay img r)) img
