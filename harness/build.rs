@@ -5,8 +5,8 @@
 
 use std::{env, path::PathBuf};
 
-const LAYERS: [&str; 4] = ["MEDIUM", "OBJECTS", "BLOCKS", "COLLECTOR"];
-const ARCHIVES: [&str; 2] = ["cface", "cface_blocks"];
+const LAYERS: [&str; 5] = ["MEDIUM", "OBJECTS", "BLOCKS", "COLLECTOR", "BATCH"];
+const ARCHIVES: [&str; 3] = ["cface", "cface_blocks", "cface_batch"];
 
 fn main() {
     println!("cargo:rerun-if-env-changed=STUMPCHOIR_LIB");

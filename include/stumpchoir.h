@@ -1,4 +1,4 @@
-/* Stumpchoir for C: the low-level layer of norfs over an image in memory, proved. Made by tools/cface, as crates/cface and cface_blocks are.
+/* Stumpchoir for C: the low-level layer of norfs over an image in memory, proved. Made by tools/cface, as its functions are.
  *
  * A new store: fill an image with FF, stumpchoir_format_storage, then give each block that is to be used a type with
  * stumpchoir_set_block_type, since a formatted block is Undefined. The first object of a block goes right behind the block's header, at
@@ -8,7 +8,8 @@
  *
  * Every function answers an enum stumpchoir_answer. 6 comes first, then 7 where there is an image, then 4 for numbers that no value has,
  * then what the steps of the operation give, in their order. A refused call leaves every out value as it was and every in/out value as it
- * went in, but for a writer, which is spent after 8; image and units have exactly what was stored before the refusal.
+ * went in, but for a writer, which is spent after 8, and for *done of stumpchoir_write_all; image and units have exactly what was stored
+ * before the refusal.
  *
  * Pointers: none is kept after a call. No two of one call may overlap. `units` may be null where `fused` is false, and a buffer may be where
  * its length is 0; no other may be. A length has to be that of the buffer, since no call can tell
@@ -336,6 +337,15 @@ uint8_t stumpchoir_copy_object(STUMPCHOIR_GEOMETRY, STUMPCHOIR_STORE, const stru
 
 /* The same, and then the object is deleted where it was. */
 uint8_t stumpchoir_move_object(STUMPCHOIR_GEOMETRY, STUMPCHOIR_STORE, const struct stumpchoir_header *header, uint32_t block, uint32_t offset, struct stumpchoir_header *copy);
+
+/* ---- Several objects of a block in one call ----
+ *
+ * The records are lent: four numbers each, type, offset, and start and length in the payload, records_len counted in numbers. 7 for more than
+ * 64 records or a part of one, before any store. *done is written in every case, also where the call is refused. */
+
+/* Up to 64 records in order, each written as stumpchoir_write_to writes an object, up to the first refusal; *done is how many were
+ * written whole. At its turn a record whose range is outside the payload is 7, then one whose type is none of the three is 4. */
+uint8_t stumpchoir_write_all(STUMPCHOIR_GEOMETRY, STUMPCHOIR_STORE, uint32_t block, const uint32_t *records, size_t records_len, const uint8_t *payload, size_t payload_len, uint32_t *done);
 
 /* ---- Blocks ---- */
 

@@ -5,7 +5,8 @@ A row is a function:
   says     what it does, for people: the comment in the code and in the header (says_c: another one in the header)
   place    alone: no image; image: one to read; store: one to store into, with a fuse
   params   its own parameters, in order: n is a u32, n:u8 another number, n[] bytes, n[]> bytes that are filled, table[]=:u32 the table;
-           n<header numbers that come in, n=header that change, n>header that go out; n>u64 a number that goes out
+           n<header numbers that come in, n=header that change, n>header that go out; n>u64 a number that goes out; n#u32 one that does in
+           every case, from 0 on
   value    what is read from numbers first (VALUES), where something is; numbers that say none are refused behind 6 and 7
   calls    the function of the library (or, in crate::.., one of this crate that hands the answer out too), `on` a value, with `args`
   means    the definition that its contract cites, over g, the value and the parameters
@@ -35,8 +36,8 @@ VALUES = {
                       uses={'MetadataRead': 'objects::metadata::MetadataRead'}),
     'record': value('r', 'BlockInfoRead::Got', 'records::record_of(record)', 'recordOf record', 'record-of',
                     uses={'BlockInfoRead': 'blocks::record::BlockInfoRead'}),
-    'type': value('t', 'ObjectTypeRead::Got', 'kinds::object_type_of(kind)', 'objectTypeOf kind', 'object-type-of',
-                  uses={'ObjectTypeRead': 'crossing::kinds::ObjectTypeRead'}),
+    'type': value('t', 'ObjectTypeRead::Got', 'ObjectType::of_number(kind as u32)', 'objectTypeOf kind', 'of-number',
+                  uses={'ObjectTypeRead': 'objects::types::ObjectTypeRead', 'ObjectType': 'objects::types::ObjectType'}),
     'block_type': value('t', 'BlockTypeRead::Got', 'records::type_of(kind)', 'blockTypeOf kind', 'type-of',
                         uses={'BlockTypeRead': 'crossing::records::BlockTypeRead'}),
     'kind': value('k', 'KindRead::Got', 'BlockHeaderKind::of_number(kind)', 'kindOf kind', 'of-number',
@@ -51,6 +52,7 @@ VALUES = {
 
 HANDS = {
     'stored': dict(code='call::hand_back'),
+    'batched': dict(code='batches::hand_back'),
     'headed': {'code': 'outs::hand_back', 'as': 'headerNumbers'},
     'new_writer': {'code': 'writers::hand_out', 'as': 'writerNumbers'},
     'writer': {'code': 'writers::hand_back', 'as': 'writerNumbers', 'spent': True},
@@ -70,7 +72,7 @@ HANDS = {
 
 # words of the kit that a contract uses
 DATA_STATE = 'Rattle.objects.specs.declared.state.ObjectDataState.the-variants'
-KIT = {'_≡_': 'mathlib.Core.Path', 'length': 'lib.ListN', 'Valid': DATA_STATE, 'Deleted': DATA_STATE}
+KIT = {'_≡_': 'mathlib.Core.Path', '[]': 'mathlib.Core.List', '_∷_': 'mathlib.Core.List', 'length': 'lib.ListN', 'Valid': DATA_STATE, 'Deleted': DATA_STATE}
 
 # ---- the functions, by module: module, what it is, the part of the header before its functions
 
@@ -213,6 +215,14 @@ MOVING = [
          args='g, image, f, h, to', means='moveObject g h to', hand='headed'),
 ]
 
+BATCH = [
+    dict(name='write_all',
+         says='Up to 64 records in order, each written as stumpchoir_write_to writes an object, up to the first refusal; *done is how many were '
+              'written whole. At its turn a record whose range is outside the payload is 7, then one whose type is none of the three is 4.',
+         place='store', params='block records[]:u32 payload[] done#u32', calls='batch::write_all',
+         args='g, image, f, block, records, payload', means='writeAll g block records payload', hand='batched'),
+]
+
 BLOCKS = [
     dict(name='block_header_read', says='The header of a block: kind and erase count.', place='image', params='block header>block_header',
          calls='blocks::header::BlockHeader::read', args='g, image, block', means='blockHeaderAt g block image', hand='block_header'),
@@ -266,7 +276,7 @@ COLLECTOR = [
 ]
 
 # the crate that a module's functions are in, where it is not cface
-CRATES = {'block_calls': 'cface_blocks', 'record_calls': 'cface_blocks', 'collector_calls': 'cface_blocks'}
+CRATES = {'block_calls': 'cface_blocks', 'record_calls': 'cface_blocks', 'collector_calls': 'cface_blocks', 'batch_calls': 'cface_batch'}
 
 GROUPS = [
     ('medium_calls', 'The medium for C.', '/* ---- The medium ---- */', MEDIUM),
@@ -281,6 +291,10 @@ GROUPS = [
     ('metadata_calls', 'Metadata objects for C.', '/* ---- Metadata objects ---- */', METADATA),
     ('iterator_calls', 'Listing for C.', '/* ---- Listing ---- */', ITERATORS),
     ('moving_calls', 'Objects written whole, copied and moved, for C.', '/* ---- Objects written whole, copied, moved ---- */', MOVING),
+    ('batch_calls', 'Several objects of a block in one call, for C.', '''/* ---- Several objects of a block in one call ----
+ *
+ * The records are lent: four numbers each, type, offset, and start and length in the payload, records_len counted in numbers. 7 for more than
+ * 64 records or a part of one, before any store. *done is written in every case, also where the call is refused. */''', BATCH),
     ('block_calls', 'Blocks for C.', '/* ---- Blocks ---- */', BLOCKS),
     ('record_calls', 'The arithmetic of a block\'s record for C.', '/* ---- Records of blocks ---- */', RECORDS),
     ('collector_calls', 'The collector for C. The table is four numbers a block: kind, erase count, used bytes, allow mark.',
@@ -338,7 +352,7 @@ ENUMS = {
         ('FOUND_NONE', 0), ('FOUND', 1), ('FOUND_END', 2)]),
 }
 
-HEAD = r"""/* Stumpchoir for C: the low-level layer of norfs over an image in memory, proved. Made by tools/cface, as crates/cface and cface_blocks are.
+HEAD = r"""/* Stumpchoir for C: the low-level layer of norfs over an image in memory, proved. Made by tools/cface, as its functions are.
  *
  * A new store: fill an image with FF, stumpchoir_format_storage, then give each block that is to be used a type with
  * stumpchoir_set_block_type, since a formatted block is Undefined. The first object of a block goes right behind the block's header, at
@@ -348,7 +362,8 @@ HEAD = r"""/* Stumpchoir for C: the low-level layer of norfs over an image in me
  *
  * Every function answers an enum stumpchoir_answer. 6 comes first, then 7 where there is an image, then 4 for numbers that no value has,
  * then what the steps of the operation give, in their order. A refused call leaves every out value as it was and every in/out value as it
- * went in, but for a writer, which is spent after 8; image and units have exactly what was stored before the refusal.
+ * went in, but for a writer, which is spent after 8, and for *done of stumpchoir_write_all; image and units have exactly what was stored
+ * before the refusal.
  *
  * Pointers: none is kept after a call. No two of one call may overlap. `units` may be null where `fused` is false, and a buffer may be where
  * its length is 0; no other may be. A length has to be that of the buffer, since no call can tell

@@ -2,8 +2,9 @@
 
 use crate::{
     case::Case,
-    model, oracle,
+    model,
     op::Layer,
+    oracle,
     outcome::{difference, Outcome},
     rattle,
 };
@@ -41,9 +42,17 @@ pub fn judge(case: &Case) -> Judged {
 }
 
 /// Plants a fault in the library's outcome, to show that the harness finds, shrinks and reports one: a stored byte of
-/// a write that is longer than five bytes, or of a block's or the collector's function, comes out wrong.
+/// a write that is longer than five bytes, or of a block's or the collector's function, comes out wrong; of a batch, the
+/// count where a record behind the second is refused.
 pub fn plant(case: &Case, judged: &mut Judged) {
     let mut wrong = judged.model.clone();
+    if case.op.signature().layer == Layer::Batch {
+        if !wrong.done() && wrong.values[0] >= 2 {
+            wrong.values[0] += 1;
+        }
+        judged.library = Some(wrong);
+        return;
+    }
     let upper = matches!(case.op.signature().layer, Layer::Blocks | Layer::Collector);
     if case.op.stores() && wrong.done() && (upper || case.bytes.len() > 5) {
         if let Some(at) = (0..wrong.image.len()).find(|&i| wrong.image[i] != case.image[i]) {

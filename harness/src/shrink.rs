@@ -36,6 +36,7 @@ fn candidates(case: &Case) -> Vec<Case> {
     let mut all = Vec::new();
     geometry(case, &mut all);
     fuse(case, &mut all);
+    records(case, &mut all);
     bytes(case, &mut all);
     numbers(case, &mut all);
     image(case, &mut all);
@@ -98,6 +99,20 @@ fn smaller(n: u32) -> Vec<u32> {
     tries.retain(|&m| m < n);
     tries.dedup();
     tries
+}
+
+/// Batches with fewer records.
+fn records(case: &Case, all: &mut Vec<Case>) {
+    if case.op.signature().array != Shape::Batch {
+        return;
+    }
+    let len = case.array.len();
+    for shorter in smaller(len as u32 / 4) {
+        all.push(with(case, |c| c.array.truncate(4 * shorter as usize)));
+    }
+    for at in (0..len).step_by(4) {
+        all.push(with(case, |c| drop(c.array.drain(at..(at + 4).min(len)))));
+    }
 }
 
 fn bytes(case: &Case, all: &mut Vec<Case>) {

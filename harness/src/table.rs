@@ -1,4 +1,4 @@
-//! Counts: answers by function and number, and how far cases were compared.
+//! Counts: answers by function and number, those of batches by the records done, and how far cases were compared.
 
 use std::collections::BTreeMap;
 
@@ -6,12 +6,43 @@ use crate::{
     answer,
     case::Case,
     compare::{Judged, Scope},
-    op::Op,
+    op::{Layer, Op},
 };
+
+/// A row of the batches' table: its place and its name.
+type Done = (usize, &'static str);
+
+const DONE: [(u64, &str); 7] =
+    [(0, "0"), (1, "1"), (2, "2"), (3, "3"), (15, "4 to 15"), (63, "16 to 63"), (u64::MAX, "64")];
+
+/// The row of so many records.
+fn done(records: u64) -> Done {
+    let row = DONE.iter().position(|&(most, _)| records <= most).unwrap();
+    (row, DONE[row].1)
+}
+
+/// One row a name, one column a number.
+fn table<'a>(head: &str, rows: impl Iterator<Item = (String, &'a [u64; 10])>) -> String {
+    let mut text = format!("| {head} |");
+    for (number, name) in answer::NAMES.iter().enumerate() {
+        text += &format!(" {number} {name} |");
+    }
+    text += "\n|---|";
+    text += &"---:|".repeat(10);
+    for (name, counts) in rows {
+        text += &format!("\n| {name} |");
+        for count in counts {
+            text += &if *count == 0 { " |".to_string() } else { format!(" {count} |") };
+        }
+    }
+    text + "\n"
+}
 
 #[derive(Default)]
 pub struct Tally {
     answers: BTreeMap<Op, [u64; 10]>,
+    /// of batches, by how many records were done
+    batches: BTreeMap<Done, [u64; 10]>,
     /// compared with text, model and library
     three: u64,
     /// compared text with model, the library not linked
@@ -24,7 +55,11 @@ pub struct Tally {
 impl Tally {
     pub fn count(&mut self, case: &Case, judged: &Judged) {
         self.cases += 1;
-        self.answers.entry(case.op).or_default()[judged.model.answer as usize % 10] += 1;
+        let answer = judged.model.answer as usize % 10;
+        self.answers.entry(case.op).or_default()[answer] += 1;
+        if case.op.signature().layer == Layer::Batch {
+            self.batches.entry(done(judged.model.values[0])).or_default()[answer] += 1;
+        }
         match (judged.scope, &judged.library) {
             (Scope::Everything, Some(_)) => self.three += 1,
             (Scope::Everything, None) => self.text += 1,
@@ -36,21 +71,20 @@ impl Tally {
         self.answers.get(&op).copied().unwrap_or_default()
     }
 
-    /// The table of answers as Markdown.
+    /// Batches that ended with a number after so many records, or one of the few counts that are put together with it.
+    pub fn of_batches(&self, records: u64) -> [u64; 10] {
+        self.batches.get(&done(records)).copied().unwrap_or_default()
+    }
+
+    /// The tables of answers as Markdown.
     pub fn markdown(&self) -> String {
-        let mut text = String::from("| function |");
-        for (number, name) in answer::NAMES.iter().enumerate() {
-            text += &format!(" {number} {name} |");
+        let functions = self.answers.iter().map(|(op, counts)| (format!("`{}`", op.name()), counts));
+        let mut text = table("function", functions);
+        if !self.batches.is_empty() {
+            let batches = self.batches.iter().map(|((_, name), counts)| (name.to_string(), counts));
+            text += &format!("\n{}", table("records of a batch done", batches));
         }
-        text += "\n|---|";
-        text += &"---:|".repeat(10);
-        for (op, counts) in &self.answers {
-            text += &format!("\n| `{}` |", op.name());
-            for count in counts {
-                text += &if *count == 0 { " |".to_string() } else { format!(" {count} |") };
-            }
-        }
-        text + "\n"
+        text
     }
 
     /// How far the cases were compared.

@@ -26,6 +26,10 @@ fn random_cases_agree() {
         assert!(tally.of(op)[0] > 50, "{} is hardly ever done", op.name());
         assert!(tally.of(op)[6] > 5, "{} hardly ever meets 6", op.name());
     }
+    for number in [0, 2, 3, 4, 5, 7, 8, 9] {
+        assert!(tally.of(Op::WriteAll)[number] > 5, "batches hardly ever meet {number}");
+        assert!(tally.of_batches(2)[number] > 5, "batches hardly ever meet {number} behind two records");
+    }
 }
 
 /// A case with much that does not matter for the fault.
@@ -48,6 +52,21 @@ fn a_planted_fault_is_made_small() {
     assert_eq!((small.geometry.size, small.geometry.count, small.geometry.s), (64, 1, 1));
     assert_eq!((small.fuse, small.bytes.len()), (None, 6));
     assert!(small.image.iter().all(|&b| b == 0xFF), "{}", small.line());
+}
+
+#[test]
+fn a_planted_fault_of_a_batch_is_made_small() {
+    let records = "142,8,0,3,141,14,3,0,143,17,0,2,142,22,1,2,142,60,0,3,141,40,0,0";
+    let line = format!("g=0/2/2/128x2 f=90 write_all n=1 a={records} b=010203040506 i=ff*150.8e.ff*105");
+    let bad = |case: &Case| {
+        let mut judged = judge(case);
+        plant(case, &mut judged);
+        judged.difference(case).is_some()
+    };
+    let small = shrink(&Case::parse(&line).unwrap(), &bad);
+    assert!(bad(&small));
+    assert_eq!((small.geometry.size, small.geometry.count, small.geometry.s), (64, 1, 1));
+    assert_eq!((small.array.len(), small.bytes.len(), small.fuse), (12, 0, None), "{}", small.line());
 }
 
 /// Runs the program, by the runner that HARNESS_RUNNER names where this machine is of another kind.
@@ -80,6 +99,8 @@ fn a_planted_fault_is_reported() {
         let case = reported(layer);
         assert!(case.op.stores() && case.geometry.count <= 2, "{}", case.line());
     }
+    let case = reported("batch");
+    assert_eq!((case.op, case.array.len()), (Op::WriteAll, 12), "two records done, and the one refused");
 }
 
 #[test]

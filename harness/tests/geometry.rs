@@ -1,6 +1,13 @@
 //! Geometry numbers that no field can hold, or a fourth number that is not 0: 6 from one function of each shape, before anything else.
 
-#![cfg(all(feature = "medium", feature = "objects", feature = "writer", feature = "blocks", feature = "collector"))]
+#![cfg(all(
+    feature = "medium",
+    feature = "objects",
+    feature = "writer",
+    feature = "blocks",
+    feature = "collector",
+    feature = "batch"
+))]
 
 use harness::rattle::interface::*;
 
@@ -22,7 +29,7 @@ fn answers(g: &[u32; 6]) -> Vec<u8> {
     let g = g.as_ptr();
     let mut image = [0xFF; 64];
     let (lent, len) = (image.as_mut_ptr(), image.len());
-    let (mut units, mut count, mut pair, mut copy) = (9, 0, [0; 2], [0; 5]);
+    let (mut units, mut count, mut pair, mut copy, mut done) = (9, 0, [0; 2], [0; 5], 9);
     let none = [0; 6];
     let answers = unsafe {
         vec![
@@ -32,9 +39,23 @@ fn answers(g: &[u32; 6]) -> Vec<u8> {
             stumpchoir_move_object(g, lent, len, true, &mut units, none.as_ptr(), 0, 8, copy.as_mut_ptr()),
             stumpchoir_reader_len(g, none.as_ptr(), &mut count),
             stumpchoir_iterator_new(g, 0, pair.as_mut_ptr()),
+            stumpchoir_write_all(
+                g,
+                lent,
+                len,
+                true,
+                &mut units,
+                0,
+                none.as_ptr(),
+                5,
+                none.as_ptr().cast(),
+                6,
+                &mut done,
+            ),
             stumpchoir_run(g, lent, len, true, &mut units, copy.as_mut_ptr(), 4),
         ]
     };
+    assert_eq!(done, 0);
     if answers.iter().all(|&n| n == 6) {
         assert_eq!((units, count, pair, copy, image), (9, 0, [0; 2], [0; 5], [0xFF; 64]));
     }
@@ -44,11 +65,11 @@ fn answers(g: &[u32; 6]) -> Vec<u8> {
 #[test]
 fn numbers_that_say_no_geometry_are_6() {
     for numbers in bad() {
-        assert_eq!(answers(&numbers), [6; 7], "{numbers:?}");
+        assert_eq!(answers(&numbers), [6; 8], "{numbers:?}");
     }
 }
 
 #[test]
 fn a_good_geometry_leaves_the_others_to_say() {
-    assert_eq!(answers(&GOOD), [0, 0, 0, 4, 4, 0, 2]);
+    assert_eq!(answers(&GOOD), [0, 0, 0, 4, 4, 0, 7, 2]);
 }

@@ -25,8 +25,9 @@ static void objects(void)
     struct stumpchoir_metadata metadata;
     struct stumpchoir_location location;
     struct stumpchoir_iterator at;
+    const uint32_t records[8] = {STUMPCHOIR_TYPE_FILE_NAME, 16, 0, 9, STUMPCHOIR_TYPE_FILE_DATA, 4096, 9, 1000};
     uint8_t six[6];
-    uint32_t found;
+    uint32_t found, done;
     uint64_t n;
     CALL(iterator_new, 0, &at);
     CALL(write_to, POWER, 0, at.offset, STUMPCHOIR_TYPE_FILE_METADATA, bytes, 4096, &n);
@@ -57,6 +58,7 @@ static void objects(void)
     CALL(writer_allocate, POWER, 2, 49152, STUMPCHOIR_TYPE_FILE_DATA, &writer);
     CALL(set_payload_size, POWER, &writer.header, 5);
     CALL(update_state, POWER, &writer.header, STUMPCHOIR_STATE_FINALIZED);
+    CALL(write_all, POWER, 3, records, 8, bytes, sizeof bytes, &done);
     CALL(info_finalize, POWER, &copy);
     CALL(info_delete, POWER, &copy);
     called--; /* writer_allocate twice */

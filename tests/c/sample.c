@@ -1,4 +1,4 @@
-/* A small store: formatted, written, listed, moved. Compiled as C99 and as C++ by tools/c-sample. */
+/* A small store: formatted, written, listed, moved, and written to in one call. Compiled as C99 and as C++ by tools/c-sample. */
 #include "stumpchoir.h"
 
 #include <stdio.h>
@@ -36,11 +36,13 @@ static void list(uint32_t block)
 int main(void)
 {
     const uint8_t payload[3] = {0x41, 0x42, 0x43};
+    /* type, offset, and start and length in the payload: the third wants a byte more than there are */
+    const uint32_t records[12] = {STUMPCHOIR_TYPE_FILE_NAME, 8, 0, 1, STUMPCHOIR_TYPE_FILE_DATA, 12, 1, 2, STUMPCHOIR_TYPE_FILE_DATA, 17, 1, 3};
     struct stumpchoir_header header, copy;
     struct stumpchoir_record table[4];
     struct stumpchoir_geometry bad = geometry;
     uint64_t total = 0;
-    uint32_t units = 6, i;
+    uint32_t units = 6, done = 9, i;
 
     /* a new store: erased, formatted, and blocks 0 and 2 for data */
     memset(image, 0xFF, sizeof image);
@@ -68,8 +70,14 @@ int main(void)
     list(0);
     list(2);
 
+    /* two objects in one call, and a third that is refused in its turn */
+    expect("write_all", stumpchoir_write_all(&geometry, image, sizeof image, false, NULL, 0, records, 12, payload, 3, &done), STUMPCHOIR_BAD_ROOM);
+    expect("records done", done, 2);
+    list(0);
+
     /* an empty buffer may be null; numbers that no geometry has are 6, also behind the 32 bits of a byte */
     expect("write of nothing", stumpchoir_write(&geometry, image, sizeof image, false, NULL, 1, 8, NULL, 0), STUMPCHOIR_DONE);
+    expect("a batch of nothing", stumpchoir_write_all(&geometry, image, sizeof image, false, NULL, 9, NULL, 0, NULL, 0, &done), STUMPCHOIR_DONE);
     expect("read of nothing", stumpchoir_read(&geometry, image, sizeof image, 1, 8, NULL, 0), STUMPCHOIR_DONE);
     bad.granularity = 256;
     expect("granularity 256", stumpchoir_check(&bad, image, sizeof image), STUMPCHOIR_BAD_GEOMETRY);

@@ -2,19 +2,19 @@
 // Made by tools/cface.
 use crate::writers;
 use crossing::call;
-use crossing::kinds;
-use crossing::kinds::ObjectTypeRead;
 use crossing::outs;
 use crossing::values;
 use objects::header::HeaderRead;
 use objects::location::ObjectLocation;
+use objects::types::ObjectType;
+use objects::types::ObjectTypeRead;
 use writer::writer::ObjectWriter;
 ghost use mathlib.Core.Path.{_≡_};
 ghost use Rattle.medium.specs.Operation.{run};
 ghost use Rattle.moving.specs.Moving.{copyObject, moveObject};
+ghost use Rattle.objects.specs.Types.{objectTypeOf};
 ghost use Rattle.writer.specs.Writer.{writeTo};
 ghost use Rattle.crossing.specs.Crossing.{crossedWith, crossingWith, plain, fuseOf, given, geometryIn};
-ghost use Rattle.crossing.specs.Kinds.{objectTypeOf};
 ghost use Rattle.crossing.specs.Values.{located, headerNumbers, headerOf};
 
 // An object of a type (8F, 8E or 8D, else 4), written whole: *total_size is its header and payload together. The type is stored first,
@@ -34,7 +34,7 @@ pub extern "C" fn stumpchoir_write_to(
     ensures { λ r. ⌜ crossedWith r (now (units .exit)) (now (image .exit)) (now («total_size» .exit)) ≡ crossingWith plain (now (units .entry)) (now («total_size» .entry)) (run (fuseOf fused (now (units .entry))) (given (geometryIn (now (geometry .entry))) (objectTypeOf kind) (λ g t. writeTo g (located block offset) t (now (src .entry)))) (now (image .entry))) ⌝ }
 {
     let g = call::geometry(geometry);
-    let of = kinds::object_type_of(kind);
+    let of = ObjectType::of_number(kind as u32);
     let ObjectTypeRead::Got(t) = of else {
         return call::refusal(g, image.len(), of.number());
     };

@@ -2,17 +2,17 @@
 // Made by tools/cface.
 use crate::writers;
 use crossing::call;
-use crossing::kinds;
-use crossing::kinds::ObjectTypeRead;
 use medium::fuse::Answered;
 use objects::location::ObjectLocation;
+use objects::types::ObjectType;
+use objects::types::ObjectTypeRead;
 use writer::writer::ObjectWriter;
 ghost use mathlib.Core.Path.{_≡_};
 ghost use Rattle.medium.specs.Operation.{run};
+ghost use Rattle.objects.specs.Types.{objectTypeOf};
 ghost use Rattle.writer.specs.Writer.{allocate, spaceOf, payloadSize, totalSize, writeSome, finalize, delete};
 ghost use Rattle.cface.specs.Writers.{writerNumbers, writerOf, spentAfter};
 ghost use Rattle.crossing.specs.Crossing.{crossedWith, crossingWith, fuseOf, given, geometryIn, told, telling, plain, asked};
-ghost use Rattle.crossing.specs.Kinds.{objectTypeOf};
 ghost use Rattle.crossing.specs.Values.{located};
 
 // Stores the type (8F, 8E or 8D, else 4) of a new object, over Free or over Allocated of the same type: its writer.
@@ -30,7 +30,7 @@ pub extern "C" fn stumpchoir_writer_allocate(
     ensures { λ r. ⌜ crossedWith r (now (units .exit)) (now (image .exit)) (now (writer .exit)) ≡ crossingWith writerNumbers (now (units .entry)) (now (writer .entry)) (run (fuseOf fused (now (units .entry))) (given (geometryIn (now (geometry .entry))) (objectTypeOf kind) (λ g t. allocate g (located block offset) t)) (now (image .entry))) ⌝ }
 {
     let g = call::geometry(geometry);
-    let of = kinds::object_type_of(kind);
+    let of = ObjectType::of_number(kind as u32);
     let ObjectTypeRead::Got(t) = of else {
         return call::refusal(g, image.len(), of.number());
     };

@@ -1,4 +1,3 @@
 pub mod Crossing
 pub mod Values
 pub mod Records
-pub mod Kinds

@@ -7,11 +7,13 @@ use lib.Dec.{eqb}
 use Rattle.medium.specs.declared.granularity.Granularity.{Granularity}
 use Rattle.medium.specs.declared.granularity.Granularity.the-variants.{Bit, Word1, Word4}
 use Rattle.medium.specs.Granularity.{pick, finishAt, deleteAt, finishMark}
-use Rattle.medium.specs.Operation.{Answer, done, refused}
+use Rattle.medium.specs.Operation.{Answer, done, refused, numberOf}
 use Rattle.objects.specs.declared.types.ObjectType.{ObjectType}
 use Rattle.objects.specs.declared.types.ObjectType.the-variants.{FileMetadata, FileData, FileName}
 use Rattle.objects.specs.declared.types.TypeRead.{TypeRead}
 use Rattle.objects.specs.declared.types.TypeRead.the-variants as ty
+use Rattle.objects.specs.declared.types.ObjectTypeRead.{ObjectTypeRead}
+use Rattle.objects.specs.declared.types.ObjectTypeRead.the-variants as said
 use Rattle.objects.specs.declared.state.ObjectDataState.{ObjectDataState}
 use Rattle.objects.specs.declared.state.ObjectDataState.the-variants.{Untrusted, Valid, Deleted}
 use Rattle.objects.specs.declared.state.DataStateRead.{DataStateRead}
@@ -42,6 +44,23 @@ abbrev pub typeAnswer : TypeRead → Answer TypeSaid
 typeAnswer (ty.Got t) = done (typed t)
 typeAnswer ty.Free = done untyped
 typeAnswer (ty.Refused n) = refused n
+
+-- ---- a type that a caller gives as a number: any other than the three gives 4, also Free's FF
+
+abbrev pub objectTypeAnswer : ObjectTypeRead → Answer ObjectType
+objectTypeAnswer (said.Got t) = done t
+objectTypeAnswer (said.Refused n) = refused n
+
+abbrev pub objectTypeNumber : ObjectTypeRead → ℕ
+objectTypeNumber r = numberOf (objectTypeAnswer r)
+
+abbrev pub objectTypeBy : Answer TypeSaid → Answer ObjectType
+objectTypeBy (done (typed t)) = done t
+objectTypeBy (done untyped) = refused 4
+objectTypeBy (refused n) = refused 4
+
+unfoldable pub objectTypeOf : ℕ → Answer ObjectType
+objectTypeOf n = objectTypeBy (typeOf n)
 
 -- ---- the marks
 

@@ -1,6 +1,6 @@
 // The type of an object, and the byte that says it.
 ghost use mathlib.Core.Path.{_≡_};
-ghost use Rattle.objects.specs.Types.{typeByte, typeOf, typeAnswer};
+ghost use Rattle.objects.specs.Types.{typeByte, typeOf, typeAnswer, objectTypeOf, objectTypeAnswer, objectTypeNumber};
 
 pub enum ObjectType {
     FileMetadata,
@@ -13,6 +13,23 @@ pub enum TypeRead {
     Got(ObjectType),
     Free,
     Refused(u8),
+}
+
+// What a number that a caller gives for a type says.
+pub enum ObjectTypeRead {
+    Got(ObjectType),
+    Refused(u8),
+}
+
+impl ObjectTypeRead {
+    pub fn number(self) -> u8
+        ensures { λ r. ⌜ r ≡ objectTypeNumber self ⌝ }
+    {
+        match self {
+            ObjectTypeRead::Got(_) => 0,
+            ObjectTypeRead::Refused(k) => k,
+        }
+    }
 }
 
 impl ObjectType {
@@ -43,6 +60,21 @@ impl ObjectType {
             Self::FILE_NAME => TypeRead::Got(ObjectType::FileName),
             Self::FREE => TypeRead::Free,
             _ => TypeRead::Refused(2),
+        }
+    }
+
+    // The type that a whole number says; none of the three is 4.
+    pub fn of_number(n: u32) -> ObjectTypeRead
+        ensures { λ r. ⌜ objectTypeAnswer r ≡ objectTypeOf n ⌝ }
+    {
+        if 255 < n {
+            return ObjectTypeRead::Refused(4);
+        }
+        let told = ObjectType::parse(n as u8);
+        match told {
+            TypeRead::Got(t) => ObjectTypeRead::Got(t),
+            TypeRead::Free => ObjectTypeRead::Refused(4),
+            TypeRead::Refused(_) => ObjectTypeRead::Refused(4),
         }
     }
 }

@@ -1,7 +1,9 @@
 -- An answer is one: two that stand for the same value are the same.
 use mathlib.Core.Path.{_≡_, refl, sym, ap, _∙_}
 use mathlib.Core.Bool.{Bool, true, false}
-use mathlib.Core.List.{List}
+use mathlib.Core.List.{List, [], _∷_}
+use lib.ListN.{getD}
+use Rattle.medium.specs.Beside.{Both, both}
 use Prim.Native.Nat.{ℕ}
 use Rattle.medium.specs.declared.fuse.Fuse.{Fuse}
 use Rattle.medium.specs.declared.fuse.Stored.{Stored}
@@ -64,8 +66,9 @@ use Rattle.crossing.specs.declared.values.TargetRead.{TargetRead}
 use Rattle.crossing.specs.declared.values.TargetRead.the-variants as target
 use Rattle.crossing.specs.declared.records.BlockTypeRead.{BlockTypeRead}
 use Rattle.crossing.specs.declared.records.BlockTypeRead.the-variants as block-type
-use Rattle.crossing.specs.declared.kinds.ObjectTypeRead.{ObjectTypeRead}
-use Rattle.crossing.specs.declared.kinds.ObjectTypeRead.the-variants as object-type
+use Rattle.objects.specs.declared.types.ObjectTypeRead.{ObjectTypeRead}
+use Rattle.objects.specs.declared.types.ObjectTypeRead.the-variants as object-type
+use Rattle.batch.specs.declared.Batched.{Batched}
 use Rattle.outcomes.proofs.One.{one}
 
 -- ---- a value or a refusal
@@ -172,10 +175,10 @@ block-type-one = one Rattle.crossing.specs.Records.blockTypeAnswer (back block-
     go (block-type.Got v) = refl
     go (block-type.Refused n) = refl
 
-pub object-type-one : {r r′ : ObjectTypeRead} → Rattle.crossing.specs.Kinds.objectTypeAnswer r ≡ Rattle.crossing.specs.Kinds.objectTypeAnswer r′ → r ≡ r′
-object-type-one = one Rattle.crossing.specs.Kinds.objectTypeAnswer (back object-type.Got object-type.Refused) (λ r. go r)
+pub object-type-one : {r r′ : ObjectTypeRead} → Rattle.objects.specs.Types.objectTypeAnswer r ≡ Rattle.objects.specs.Types.objectTypeAnswer r′ → r ≡ r′
+object-type-one = one Rattle.objects.specs.Types.objectTypeAnswer (back object-type.Got object-type.Refused) (λ r. go r)
   where
-    go : (r : ObjectTypeRead) → back object-type.Got object-type.Refused (Rattle.crossing.specs.Kinds.objectTypeAnswer r) ≡ r
+    go : (r : ObjectTypeRead) → back object-type.Got object-type.Refused (Rattle.objects.specs.Types.objectTypeAnswer r) ≡ r
     go (object-type.Got v) = refl
     go (object-type.Refused n) = refl
 
@@ -312,6 +315,13 @@ stored-one r r′ i i′ e p q = let s = one-outcome r r′ tt tt i i′ e p q i
 
 writings : (r r′ : Writing) → r .answer ≡ r′ .answer → r .writer ≡ r′ .writer → r ≡ r′
 writings r r′ a w = ap (λ (z : Stored). record { answer = z; writer = r .writer }) a ∙ ap (λ (z : ObjectWriter). record { answer = r′ .answer; writer = z }) w
+
+-- with a count that stands beside the image
+pub batched-one : (r r′ : Batched) (i i′ : List ℕ) (e : EndIn Both (Unit {0})) → ended (r .answer) (both i (r .done ∷ [])) ≡ e → ended (r′ .answer) (both i′ (r′ .done ∷ [])) ≡ e → (r ≡ r′) × (i ≡ i′)
+batched-one r r′ i i′ e p q =
+    let s = one-outcome (r .answer) (r′ .answer) tt tt (both i (r .done ∷ [])) (both i′ (r′ .done ∷ [])) e p q in
+    let n : r .done ≡ r′ .done = ap (λ (z : Both). getD (z .table) 0 0) (s .state) in
+    (ap (λ (z : Stored). record { answer = z; done = r .done }) (s .answer) ∙ ap (λ (z : ℕ). record { answer = r′ .answer; done = z }) n, ap (λ (z : Both). z .image) (s .state))
 
 -- with a value beside it: the second clause says which one a refusal gives back
 module _ {S : Type 0} where

@@ -2,7 +2,7 @@
 use mathlib.Core.Path.{_≡_, sym, ap, _∙_}
 use denote.Ref.{now}
 use Rattle.outcomes.proofs.One.{One}
-use Rattle.outcomes.proofs.Answers.{block-info-one, block-type-one, header-one, metadata-one, object-type-one, reader-one, state-one, target-one}
+use Rattle.outcomes.proofs.Answers.{block-info-one, block-type-one, header-one, metadata-one, reader-one, state-one, target-one}
 use Rattle.crossing.specs.Crossing.{Telling}
 use Rattle.crossing.proofs.call.geometry.Reads as call-geometry
 use Rattle.crossing.proofs.call.refusal.Reads as call-refusal
@@ -10,8 +10,6 @@ use Rattle.crossing.proofs.call.refusal_alone.Reads as call-refusal-alone
 use Rattle.crossing.proofs.call.fuse_of.Reads as call-fuse-of
 use Rattle.crossing.proofs.call.hand_back.Reads as call-hand-back
 use Rattle.crossing.proofs.call.hand_count.Reads as call-hand-count
-use Rattle.crossing.proofs.kinds.ObjectTypeRead.number.Reads as kinds-ObjectTypeRead-number
-use Rattle.crossing.proofs.kinds.object_type_of.Reads as kinds-object-type-of
 use Rattle.crossing.proofs.outs.type_number.Reads as outs-type-number
 use Rattle.crossing.proofs.outs.put_header.Reads as outs-put-header
 use Rattle.crossing.proofs.outs.hand_back.Reads as outs-hand-back
@@ -53,12 +51,6 @@ call-hand-back-one _ _ r r′ e e′ p q = (p .0 ∙ sym (q .0), p .1 ∙ sym (q
 
 pub call-hand-count-one : One call-hand-count.Post (λ _ r e r′ e′. (r ≡ r′) × (now (e .1 .0) ≡ now (e′ .1 .0)))
 call-hand-count-one _ _ r r′ e e′ p q = let s = p ∙ sym q in (ap (λ (z : Telling _). z .number) s, ap (λ (z : Telling _). z .out) s)
-
-pub kinds-ObjectTypeRead-number-one : One kinds-ObjectTypeRead-number.Post (λ _ r e r′ e′. r ≡ r′)
-kinds-ObjectTypeRead-number-one _ _ r r′ e e′ p q = p ∙ sym q
-
-pub kinds-object-type-of-one : One kinds-object-type-of.Post (λ _ r e r′ e′. r ≡ r′)
-kinds-object-type-of-one _ _ r r′ e e′ p q = object-type-one (p ∙ sym q)
 
 pub outs-type-number-one : One outs-type-number.Post (λ _ r e r′ e′. r ≡ r′)
 outs-type-number-one _ _ r r′ e e′ p q = p ∙ sym q

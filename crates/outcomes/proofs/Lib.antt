@@ -7,8 +7,10 @@ pub mod Blocks
 pub mod Collector
 pub mod Cface
 pub mod CfaceBlocks
+pub mod CfaceBatch
 pub mod Lines
 pub mod Moving
+pub mod Batch
 pub mod Powercut
 pub mod Crossing
 pub mod GeometryRecord

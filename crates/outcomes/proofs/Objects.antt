@@ -2,7 +2,7 @@
 use mathlib.Core.Path.{_≡_, sym, _∙_}
 use denote.Ref.{now}
 use Rattle.outcomes.proofs.One.{One}
-use Rattle.outcomes.proofs.Answers.{answered-one, counted-one, data-state-one, headed-one, header-one, heard-one, info-one, location-one, metadata-one, next-location-one, next-one, reader-one, reading-one, state-one, type-one}
+use Rattle.outcomes.proofs.Answers.{answered-one, counted-one, data-state-one, headed-one, header-one, heard-one, info-one, location-one, metadata-one, next-location-one, next-one, object-type-one, reader-one, reading-one, state-one, type-one}
 use Rattle.objects.proofs.header.HeaderRead.number.Reads as header-HeaderRead-number
 use Rattle.objects.proofs.header.unset.Reads as header-unset
 use Rattle.objects.proofs.header.ObjectHeader.read.Reads as header-ObjectHeader-read
@@ -50,8 +50,10 @@ use Rattle.objects.proofs.state.CompositeObjectState.rank.Reads as state-Compos
 use Rattle.objects.proofs.state.CompositeObjectState.state.Reads as state-CompositeObjectState-state
 use Rattle.objects.proofs.state.CompositeObjectState.read.Reads as state-CompositeObjectState-read
 use Rattle.objects.proofs.state.CompositeObjectState.allocatable.Reads as state-CompositeObjectState-allocatable
+use Rattle.objects.proofs.types.ObjectTypeRead.number.Reads as types-ObjectTypeRead-number
 use Rattle.objects.proofs.types.ObjectType.byte.Reads as types-ObjectType-byte
 use Rattle.objects.proofs.types.ObjectType.parse.Reads as types-ObjectType-parse
+use Rattle.objects.proofs.types.ObjectType.of_number.Reads as types-ObjectType-of-number
 
 pub header-HeaderRead-number-one : One header-HeaderRead-number.Post (λ _ r e r′ e′. r ≡ r′)
 header-HeaderRead-number-one _ _ r r′ e e′ p q = p ∙ sym q
@@ -194,8 +196,14 @@ state-CompositeObjectState-read-one _ _ r r′ e e′ p q = state-one (p ∙ sym
 pub state-CompositeObjectState-allocatable-one : One state-CompositeObjectState-allocatable.Post (λ _ r e r′ e′. r ≡ r′)
 state-CompositeObjectState-allocatable-one _ _ r r′ e e′ p q = answered-one r r′ _ p q
 
+pub types-ObjectTypeRead-number-one : One types-ObjectTypeRead-number.Post (λ _ r e r′ e′. r ≡ r′)
+types-ObjectTypeRead-number-one _ _ r r′ e e′ p q = p ∙ sym q
+
 pub types-ObjectType-byte-one : One types-ObjectType-byte.Post (λ _ r e r′ e′. r ≡ r′)
 types-ObjectType-byte-one _ _ r r′ e e′ p q = p ∙ sym q
 
 pub types-ObjectType-parse-one : One types-ObjectType-parse.Post (λ _ r e r′ e′. r ≡ r′)
 types-ObjectType-parse-one _ _ r r′ e e′ p q = type-one (p ∙ sym q)
+
+pub types-ObjectType-of-number-one : One types-ObjectType-of-number.Post (λ _ r e r′ e′. r ≡ r′)
+types-ObjectType-of-number-one _ _ r r′ e e′ p q = object-type-one (p ∙ sym q)

@@ -1,5 +1,6 @@
 //! Small cases counted through: every offset, length, byte, mark and fuse on blocks of 64 bytes.
 
+mod batch;
 mod blocks;
 mod collector;
 mod medium;
@@ -17,6 +18,7 @@ pub fn all(layer: Layer, visit: Visit) -> bool {
         Layer::Objects => objects::all(visit),
         Layer::Blocks => blocks::all(visit),
         Layer::Collector => collector::all(visit),
+        Layer::Batch => batch::all(visit),
     }
 }
 

@@ -1,5 +1,6 @@
 //! Where cases come from: small ones counted through, and random ones at every boundary over built and damaged images.
 
+pub mod batch;
 mod blocks;
 mod collector;
 pub mod exhaustive;
@@ -36,6 +37,7 @@ impl Source {
             Layer::Objects => objects::make(r),
             Layer::Blocks => blocks::make(r),
             Layer::Collector => collector::make(r),
+            Layer::Batch => batch::make(r),
         }
     }
 

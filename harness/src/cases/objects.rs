@@ -118,7 +118,7 @@ fn any_finished(r: &mut Random, flash: &Flash) -> Option<Header> {
 }
 
 /// A place behind the objects of a block where so many bytes fit.
-fn with_room(r: &mut Random, flash: &Flash, total: u64) -> Option<Vec<u32>> {
+pub fn with_room(r: &mut Random, flash: &Flash, total: u64) -> Option<Vec<u32>> {
     let g = flash.geometry;
     let first = r.below(g.count);
     let blocks = (0..g.count).map(|i| (first + i) % g.count);

@@ -1,5 +1,6 @@
 //! Makes a case wrong in what is tested first: geometry, room, impossible values.
 
+use super::batch::NO_TYPES;
 use crate::{
     case::Case,
     op::{Op, Place, Shape},
@@ -45,8 +46,10 @@ fn geometry(r: &mut Random, case: &mut Case) {
 }
 
 fn room(r: &mut Random, case: &mut Case) {
-    let table = case.op.signature().array == Shape::Table;
-    if table && r.one_in(2) {
+    let shape = case.op.signature().array;
+    if shape == Shape::Batch && r.one_in(2) {
+        list(r, case);
+    } else if shape == Shape::Table && r.one_in(2) {
         let len = case.array.len();
         let wrong = r.pick(&[len - 1, len + 1, len - 4, len + 4, 0, len / 2]);
         case.array.resize(wrong, 0);
@@ -55,6 +58,14 @@ fn room(r: &mut Random, case: &mut Case) {
         let wrong = r.pick(&[len - 1, len + 1, 0, len + size.min(70_000), len - size.min(len), len / 2, len + 4]);
         case.image.resize(wrong, 0xFF);
     }
+}
+
+/// A part of a record too many, or more records than a call takes.
+fn list(r: &mut Random, case: &mut Case) {
+    let len = case.array.len();
+    let wrong = r.pick(&[len + 1, len + 2, len + 3, 257, 260, 264, 1024]);
+    let kind = r.pick(&[0x8F, 0x8E, 0x00]);
+    case.array.resize(wrong, kind);
 }
 
 fn impossible(r: &mut Random, case: &mut Case) {
@@ -79,6 +90,10 @@ fn impossible(r: &mut Random, case: &mut Case) {
             if record + field < case.array.len() {
                 case.array[record + field] = if field == 0 { wide } else { r.pick(&[2, 3, 255, 256, u32::MAX]) };
             }
+        }
+        Shape::Batch if !case.array.is_empty() => {
+            let record = 4 * r.below(case.array.len().div_ceil(4) as u32) as usize;
+            case.array[record] = r.pick(&NO_TYPES);
         }
         _ => {}
     }

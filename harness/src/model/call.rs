@@ -28,12 +28,13 @@ pub struct Ran {
 pub fn run(case: &Case) -> Ran {
     let mut after = Outcome::before(case);
     let mut rule = false;
-    let answer = early::refuse(case).and_then(|()| {
-        if case.op.signature().layer == Layer::Collector {
-            collect(case, &mut after, &mut rule)
-        } else {
-            call(case, &mut after)
-        }
+    if case.op.signature().tells_always() {
+        after.values.fill(0);
+    }
+    let answer = early::refuse(case).and_then(|()| match case.op.signature().layer {
+        Layer::Collector => collect(case, &mut after, &mut rule),
+        Layer::Batch => batch(case, &mut after),
+        _ => call(case, &mut after),
     });
     if let Err(number) = answer {
         after.answer = number;
@@ -58,6 +59,15 @@ fn collect(case: &Case, after: &mut Outcome, rule: &mut bool) -> Answer<()> {
     *rule = collector.rule;
     after.fuse = collector.flash.fuse;
     after.image = collector.flash.image;
+    answer
+}
+
+/// The count of records done is told also after a refusal.
+fn batch(case: &Case, after: &mut Outcome) -> Answer<()> {
+    let mut flash = Flash::new(case.geometry, std::mem::take(&mut after.image), case.fuse);
+    let answer = flash.write_all(case.args[0], &case.array, &case.bytes, &mut after.values[0]);
+    after.image = flash.image;
+    after.fuse = flash.fuse;
     answer
 }
 

@@ -15,6 +15,9 @@ use crate::{
 /// "A cursor above 65,536" is impossible.
 pub const CURSOR_LIMIT: u32 = 65_536;
 
+/// Records of a batch.
+pub const MOST_RECORDS: u64 = 64;
+
 pub fn refuse(case: &Case) -> Answer<()> {
     if !case.geometry.good() {
         return Err(BAD_GEOMETRY);
@@ -23,7 +26,7 @@ pub fn refuse(case: &Case) -> Answer<()> {
         return Err(BAD_ROOM);
     }
     let shape = case.op.signature().array;
-    if shape == Shape::Table && case.array.len() as u64 != 4 * case.geometry.count as u64 {
+    if !possible_len(case.geometry, shape, case.array.len() as u64) {
         return Err(BAD_ROOM);
     }
     if possible_array(case.geometry, shape, &case.array) && possible_args(case) && !spent(case) {
@@ -33,9 +36,18 @@ pub fn refuse(case: &Case) -> Answer<()> {
     }
 }
 
+/// A table has a record a block, a batch at most 64; all others have the length that their shape says.
+fn possible_len(g: Geometry, shape: Shape, len: u64) -> bool {
+    match shape {
+        Shape::Table => len == 4 * g.count as u64,
+        Shape::Batch => len <= 4 * MOST_RECORDS && len % 4 == 0,
+        _ => true,
+    }
+}
+
 fn possible_array(g: Geometry, shape: Shape, n: &[u32]) -> bool {
     match shape {
-        Shape::None | Shape::Iterator => true,
+        Shape::None | Shape::Iterator | Shape::Batch => true,
         Shape::Header => possible_header(n),
         Shape::Writer => possible_header(n) && possible_writer(g, n),
         Shape::Reader => possible_header(n) && n[5] <= CURSOR_LIMIT,

@@ -1,5 +1,6 @@
 //! A plain second implementation of the paper (01-scope, with the readings of 03-open-points), for every case.
 
+pub mod batch;
 pub mod blocks;
 mod call;
 pub mod collector;

@@ -227,6 +227,19 @@ unsafe extern "C" {
         offset: u32,
         copy: *mut u32,
     ) -> u8;
+    pub fn stumpchoir_write_all(
+        geometry: *const u32,
+        image: *mut u8,
+        image_len: usize,
+        fused: bool,
+        units: *mut u32,
+        block: u32,
+        records: *const u32,
+        records_len: usize,
+        payload: *const u8,
+        payload_len: usize,
+        done: *mut u32,
+    ) -> u8;
     pub fn stumpchoir_block_header_read(
         geometry: *const u32,
         image: *const u8,

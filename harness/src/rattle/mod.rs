@@ -2,6 +2,8 @@
 //!
 //! A layer is called where the feature of its name is on; the archive must have its functions then.
 
+#[cfg(feature = "batch")]
+mod batch;
 #[cfg(feature = "blocks")]
 mod blocks;
 #[cfg(feature = "collector")]
@@ -24,6 +26,7 @@ pub fn present(layer: Layer) -> bool {
         Layer::Objects => cfg!(feature = "objects"),
         Layer::Blocks => cfg!(feature = "blocks"),
         Layer::Collector => cfg!(feature = "collector"),
+        Layer::Batch => cfg!(feature = "batch"),
     }
 }
 
@@ -52,6 +55,8 @@ fn call(case: &Case, lent: &mut Lent) -> Option<u8> {
         Layer::Blocks => Some(blocks::call(case, lent)),
         #[cfg(feature = "collector")]
         Layer::Collector => Some(collector::call(case, lent)),
+        #[cfg(feature = "batch")]
+        Layer::Batch => Some(batch::call(case, lent)),
         #[allow(unreachable_patterns)]
         _ => None,
     }
@@ -113,7 +118,7 @@ impl Lent {
         let mut values: Vec<u64> = outs
             .map(|out| match out {
                 Out::B => *b.next().unwrap() as u64,
-                Out::W => *w.next().unwrap() as u64,
+                Out::W | Out::Always => *w.next().unwrap() as u64,
                 Out::Q => q.next().unwrap(),
             })
             .collect();

@@ -22,6 +22,8 @@ pub mod sha256;
 pub mod standins;
 
 #[cfg(norfs_text)]
+mod call_batch;
+#[cfg(norfs_text)]
 mod call_blocks;
 #[cfg(norfs_text)]
 mod call_collector;

@@ -6,13 +6,14 @@ pub enum Layer {
     Objects,
     Blocks,
     Collector,
+    Batch,
 }
 
-pub const LAYERS: [Layer; 4] = [Layer::Medium, Layer::Objects, Layer::Blocks, Layer::Collector];
+pub const LAYERS: [Layer; 5] = [Layer::Medium, Layer::Objects, Layer::Blocks, Layer::Collector, Layer::Batch];
 
 impl Layer {
     pub fn name(self) -> &'static str {
-        ["medium", "objects", "blocks", "collector"][self as usize]
+        ["medium", "objects", "blocks", "collector", "batch"][self as usize]
     }
 }
 
@@ -38,6 +39,8 @@ pub enum Shape {
     Record,
     /// any length: four numbers a block when it is right
     Table,
+    /// any length: four numbers a record of a batch, at most 64 of them when it is right; only read
+    Batch,
 }
 
 impl Shape {
@@ -50,7 +53,7 @@ impl Shape {
             Shape::Metadata => Some(9),
             Shape::Iterator => Some(2),
             Shape::Record => Some(4),
-            Shape::Table => None,
+            Shape::Table | Shape::Batch => None,
         }
     }
 }
@@ -65,12 +68,13 @@ pub enum Lent {
     Buffer,
 }
 
-/// One out value: a byte, a u32 or a u64.
+/// One out value: a byte, a u32 or a u64; or a u32 that is set in every case, refusals included.
 #[derive(Clone, Copy, PartialEq, Eq, Debug)]
 pub enum Out {
     B,
     W,
     Q,
+    Always,
 }
 
 impl Out {
@@ -78,7 +82,7 @@ impl Out {
     pub fn before(self) -> u64 {
         match self {
             Out::B => 0xA5,
-            Out::W => 0xA5A5_A5A5,
+            Out::W | Out::Always => 0xA5A5_A5A5,
             Out::Q => 0xA5A5_A5A5_A5A5_A5A5,
         }
     }
@@ -93,6 +97,13 @@ pub struct Signature {
     pub array: Shape,
     pub lent: Lent,
     pub outs: &'static [Out],
+}
+
+impl Signature {
+    /// Whether the out values are told in every case, refusals included.
+    pub fn tells_always(&self) -> bool {
+        self.outs.contains(&Out::Always)
+    }
 }
 
 macro_rules! ops {
@@ -110,7 +121,7 @@ macro_rules! ops {
     };
 }
 
-use Out::{B, Q, W};
+use Out::{Always, B, Q, W};
 
 ops! {
     Check "check" Medium Image [] None None &[];
@@ -149,6 +160,8 @@ ops! {
     MetadataReset "metadata_reset" Objects Nothing [] Metadata None &[];
     IteratorNew "iterator_new" Objects Nothing ["block"] None None &[W; 2];
     IteratorNext "iterator_next" Objects Image [] Iterator None &[W; 6];
+
+    WriteAll "write_all" Batch Store ["block"] Batch Source &[Always];
 
     BlockHeaderRead "block_header_read" Blocks Image ["block"] None None &[W; 2];
     BlockHeaderWrite "block_header_write" Blocks Store ["block" "kind" "erase_count"] None None &[];

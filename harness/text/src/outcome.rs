@@ -77,12 +77,14 @@ pub fn difference(case: &Case, one: &Outcome, other: &Outcome, text: bool) -> Op
     if one.bytes != other.bytes {
         return Some("lent bytes");
     }
-    let shape = case.op.signature().array;
+    let signature = case.op.signature();
+    let shape = signature.array;
+    let lent = matches!(shape, Shape::Table | Shape::Batch);
     let values_count = one.done() || !text;
-    if (values_count || shape == Shape::Table) && arrays_differ(shape, one, other) {
+    if (values_count || lent) && arrays_differ(shape, one, other) {
         return Some(if shape == Shape::Table { "table" } else { "array" });
     }
-    if values_count && values_differ(case, one, other) {
+    if (values_count || signature.tells_always()) && values_differ(case, one, other) {
         return Some("values");
     }
     None

@@ -2,7 +2,7 @@
 
 use crate::{
     answer::{DONE, FS_CORRUPTED, INSUFFICIENT_SPACE, INVALID_OPERATION, IO, NOT_FORMATTED, POWER_LOST, RUST_PANIC},
-    call_blocks, call_collector, call_objects,
+    call_batch, call_blocks, call_collector, call_objects,
     case::Case,
     flash::{set_widths, Chip},
     op::{Layer, Op},
@@ -12,7 +12,7 @@ use crate::{
     StorageError,
 };
 
-/// What the text shows of a call that is done; the table and the lent bytes also after a refusal.
+/// What the text shows of a call that is done; the table, the lent bytes and a batch's count also after a refusal.
 pub struct Shown {
     pub values: Vec<u64>,
     pub array: Vec<u32>,
@@ -49,10 +49,11 @@ pub fn run_on<M: Chip>(case: &Case) -> Outcome {
         bytes: case.bytes.clone(),
     };
     let result = panics::catch(|| match case.op.signature().layer {
-        Layer::Medium => now(call_medium(case, &mut medium, &mut shown)),
-        Layer::Objects => call_objects::call(case, &mut medium, &mut shown),
-        Layer::Blocks => call_blocks::call(case, &mut medium, &mut shown),
-        Layer::Collector => call_collector::call(case, &mut medium, &mut shown),
+        Layer::Medium => now(call_medium(case, &mut medium, &mut shown)).map_err(number),
+        Layer::Objects => call_objects::call(case, &mut medium, &mut shown).map_err(number),
+        Layer::Blocks => call_blocks::call(case, &mut medium, &mut shown).map_err(number),
+        Layer::Collector => call_collector::call(case, &mut medium, &mut shown).map_err(number),
+        Layer::Batch => call_batch::call(case, &mut medium, &mut shown),
     });
     let (image, fuse, lost) = medium.end();
     after.image = image;
@@ -61,20 +62,21 @@ pub fn run_on<M: Chip>(case: &Case) -> Outcome {
     after.answer = match result {
         None => RUST_PANIC,
         Some(Err(_)) if lost => POWER_LOST,
-        Some(Err(error)) => number(error),
+        Some(Err(number)) => number,
         Some(Ok(())) => DONE,
     };
     if after.done() || case.op.signature().layer == Layer::Collector {
         after.array = shown.array;
         after.known = shown.known;
     }
-    if after.done() {
+    if after.done() || case.op.signature().tells_always() {
         after.values = shown.values;
     }
     after
 }
 
-fn number(error: StorageError) -> u8 {
+/// The number of the text's own refusal.
+pub fn number(error: StorageError) -> u8 {
     match error {
         StorageError::NotFormatted => NOT_FORMATTED,
         StorageError::FsCorrupted => FS_CORRUPTED,

@@ -5,6 +5,8 @@ mod inspector;
 mod lists;
 mod moves;
 mod options;
+#[cfg(all(feature = "batch", feature = "writer"))]
+mod speed;
 
 use std::process::ExitCode;
 
@@ -18,6 +20,8 @@ fn main() -> ExitCode {
         "replay" => lists::replay(&o),
         "record" => lists::record(&o),
         "recorded" => lists::recorded(&o),
+        #[cfg(all(feature = "batch", feature = "writer"))]
+        "speed" => speed::run(&o),
         _ => Err(options::USAGE.to_string()),
     });
     match result {

@@ -26,12 +26,12 @@ pub fn all(visit: Visit) -> bool {
     })
 }
 
-fn first(g: Geometry) -> u32 {
+pub fn first(g: Geometry) -> u32 {
     layout::block_header_len(g) as u32
 }
 
 /// A Data block without objects.
-fn block(g: Geometry) -> Flash {
+pub fn block(g: Geometry) -> Flash {
     let mut flash = Flash::erased(g);
     for block in 0..g.count {
         flash.block_header_write(block, DATA, 0).unwrap();
@@ -39,7 +39,7 @@ fn block(g: Geometry) -> Flash {
     flash
 }
 
-fn data(len: usize) -> Vec<u8> {
+pub fn data(len: usize) -> Vec<u8> {
     (0..len).map(|i| 0x41 + i as u8).collect()
 }
 

@@ -1,6 +1,6 @@
 use borrow.Author.Tests.{ne-eqb}
 use Rattle.crossing.specs.Values.{stateOf}
-use Rattle.crossing.proofs.Types.{type-high}
+use Rattle.objects.proofs.NoType.{type-high}
 use borrow.Author.Needs.{needs}
 use Rattle.crossing.proofs.values.state_of.Statement.{statement}
 use Rattle.crossing.proofs.values.state_of.Tie as tie

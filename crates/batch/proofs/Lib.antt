@@ -1,0 +1,6 @@
+pub mod Turns
+pub mod Records
+pub mod Laws
+pub mod Cut
+pub mod Scanned
+pub mod Resumed
