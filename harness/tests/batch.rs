@@ -158,6 +158,31 @@ fn a_cut_batch_is_the_cut_records() {
     }
 }
 
+/// The records from the count on, with power again, on each side.
+#[test]
+fn the_rest_of_a_cut_batch_ends_as_the_uncut_one() {
+    for granularity in [0, 1, 4] {
+        let g = geometry(granularity);
+        let records = laid(g, layout::block_header_len(g) as u32, &[5, 0, 6, 1]);
+        let call = |b: &mut Bench, from: usize| b.call(Op::WriteAll, &[1], &records[from..].concat(), b"a few bytes.");
+        for empty in benches(g) {
+            let mut whole = empty.clone();
+            if call(&mut whole, 0).is_none() {
+                continue;
+            }
+            for fuse in 0..40 {
+                let mut cut = empty.clone();
+                cut.fuse = Some(fuse);
+                let done = call(&mut cut, 0).unwrap().values[0];
+                cut.fuse = None;
+                let rest = call(&mut cut, done as usize).unwrap();
+                assert_eq!((rest.answer, rest.values[0]), (0, 4 - done), "{} {fuse}", cut.side);
+                assert_eq!(cut.image, whole.image, "{} {fuse}", cut.side);
+            }
+        }
+    }
+}
+
 #[test]
 fn a_record_is_looked_at_in_its_turn() {
     let outcome = agreed(0, "-", "142,8,0,1,142,12,0,2,399,16,0,0", "41");

@@ -14,15 +14,15 @@ use Rattle.medium.proofs.Left.{bind-events, asked}
 use Rattle.medium.proofs.Beside.{length-run, image-left, image-answer}
 use Rattle.writer.specs.declared.writer.Wrote.the-variants as wrote
 use Rattle.batch.specs.declared.record.Record.{Record}
-use Rattle.batch.specs.Batch.{recordLength, recordOf, recordsIn, batchable, writeRecord, counting, writing, writeAll}
-use Rattle.batch.specs.Laws.{Ended, endOf, batch, numberDone, Takes, afterBy, afterOne, oneByOne, OneByOne, raised, Joined, FirstThenRest, Numbers, unitsAmong, whereDone, inTurn, UnitsInTurn}
+use Rattle.batch.specs.Batch.{perRecord, batchRecord, recordsIn, batchable, writeRecord, countTo, writing, writeAll}
+use Rattle.batch.specs.Laws.{BatchEnd, endOf, batch, numberDone, Takes, afterBy, afterOne, oneByOne, OneByOne, raised, Joined, FirstThenRest, Numbers, unitsAmong, whereDone, inTurn, UnitsInTurn}
 use Rattle.batch.proofs.Turns.{batch-passed, batch-fits, batch-checked, record-on, record-stop, records-end, all-on}
 
 -- ---- one by one
 
 module _ (g : Geometry) (b : ℕ) (payload : List ℕ) where
   -- what comes after a record, where it goes on the same way
-  after-same : (i : ℕ) (e : End ℕ) (k l : Fuse → List ℕ → Ended) → ((f : Fuse) (img : List ℕ) → k f img ≡ l f img) → afterOne i e k ≡ afterOne i e l
+  after-same : (i : ℕ) (e : End ℕ) (k l : Fuse → List ℕ → BatchEnd) → ((f : Fuse) (img : List ℕ) → k f img ≡ l f img) → afterOne i e k ≡ afterOne i e l
   after-same i e k l h = go (e .answer) refl
     where
       go : (a : Answer ℕ) → e .answer ≡ a → afterOne i e k ≡ afterOne i e l
@@ -53,15 +53,15 @@ one-by-one f g b records payload img h = all-on g b payload records f img (0 ∷
 
 -- ---- lists of numbers that are joined
 
-records-append : (xs ys : List ℕ) → length xs % recordLength ≡ 0 → recordsIn (xs ++ ys) ≡ recordsIn xs ++ recordsIn ys
+records-append : (xs ys : List ℕ) → length xs % perRecord ≡ 0 → recordsIn (xs ++ ys) ≡ recordsIn xs ++ recordsIn ys
 unfolding recordsIn
 records-append [] ys h = refl
 records-append (t ∷ []) ys h = absurd (omega arith)
 records-append (t ∷ o ∷ []) ys h = absurd (omega arith)
 records-append (t ∷ o ∷ a ∷ []) ys h = absurd (omega arith)
-records-append (t ∷ o ∷ a ∷ n ∷ xs) ys h = ap (λ (rs : List Record). recordOf t o a n ∷ rs) (records-append xs ys (omega arith))
+records-append (t ∷ o ∷ a ∷ n ∷ xs) ys h = ap (λ (rs : List Record). batchRecord t o a n ∷ rs) (records-append xs ys (omega arith))
 
-pub records-length : (ns : List ℕ) → length (recordsIn ns) ≡ length ns / recordLength
+pub records-length : (ns : List ℕ) → length (recordsIn ns) ≡ length ns / perRecord
 unfolding recordsIn
 records-length [] = refl
 records-length (t ∷ []) = refl
@@ -70,7 +70,7 @@ records-length (t ∷ o ∷ a ∷ []) = refl
 records-length (t ∷ o ∷ a ∷ n ∷ ns) = omega (arith, records-length ns)
 
 -- a part of a list that is taken, on an image of the same length
-pub takes-part : (g : Geometry) (ns ms img after : List ℕ) → Takes g ns img → length ms ≤ length ns → length ms % recordLength ≡ 0 → length after ≡ length img → Takes g ms after
+pub takes-part : (g : Geometry) (ns ms img after : List ℕ) → Takes g ns img → length ms ≤ length ns → length ms % perRecord ≡ 0 → length after ≡ length img → Takes g ms after
 takes-part g ns ms img after h l w e =
     let p = batch-passed g (length img) (length ns) 0 (sym h) refl in
     rw e (sym (batch-fits g (length img) (length ms) 0 (sym (batch-checked g (length img) (length ns) h)) refl (omega (arith, p)) w))
@@ -103,9 +103,9 @@ module _ (g : Geometry) (b : ℕ) (payload : List ℕ) where
 
   -- the image keeps its length
   pub long : (f : Fuse) (i : ℕ) (rs : List Record) (img : List ℕ) → length (oneByOne f g b payload i rs img .state .image) ≡ length img
-  long f i rs img = ap (λ (e : Ended). length (e .state .image)) (sym (turns g b payload f i rs img)) ∙ length-run f (writing g b payload i rs) (both img (i ∷ []))
+  long f i rs img = ap (λ (e : BatchEnd). length (e .state .image)) (sym (turns g b payload f i rs img)) ∙ length-run f (writing g b payload i rs) (both img (i ∷ []))
 
-  next-same : (e : Ended) (k l : Fuse → List ℕ → Ended) → k (e .fuse) (e .state .image) ≡ l (e .fuse) (e .state .image)
+  next-same : (e : BatchEnd) (k l : Fuse → List ℕ → BatchEnd) → k (e .fuse) (e .state .image) ≡ l (e .fuse) (e .state .image)
       → next e (λ _ f₁ s. k f₁ (s .image)) ≡ next e (λ _ f₁ s. l f₁ (s .image))
   next-same e k l h = go (e .answer)
     where
@@ -120,8 +120,8 @@ module _ (g : Geometry) (b : ℕ) (payload : List ℕ) where
       let e : n ≡ n + 0 = omega arith in
       ap (λ (m : ℕ). oneByOne f g b payload m (recordsIn records) img) e ∙ raise f n 0 (recordsIn records) img ∙ ap (raised n) (sym (one-by-one f g b records payload img h))
 
-  join : (f : Fuse) (xs ys img : List ℕ) → length xs % recordLength ≡ 0 → Takes g (xs ++ ys) img
-      → batch f g b (xs ++ ys) payload img ≡ next (batch f g b xs payload img) (λ _ f₁ s. raised (length xs / recordLength) (batch f₁ g b ys payload (s .image)))
+  join : (f : Fuse) (xs ys img : List ℕ) → length xs % perRecord ≡ 0 → Takes g (xs ++ ys) img
+      → batch f g b (xs ++ ys) payload img ≡ next (batch f g b xs payload img) (λ _ f₁ s. raised (length xs / perRecord) (batch f₁ g b ys payload (s .image)))
   unfolding OneByOne
   join f xs ys img w h =
       let p = batch-passed g (length img) (length (xs ++ ys)) 0 (sym h) refl in
@@ -133,9 +133,9 @@ module _ (g : Geometry) (b : ℕ) (payload : List ℕ) where
       ∙ ap (λ (rs : List Record). oneByOne f g b payload 0 rs img) (records-append xs ys w)
       ∙ split f 0 (recordsIn xs) (recordsIn ys) img
       ∙ ap (λ (n : ℕ). next e (λ _ f₁ s. oneByOne f₁ g b payload n (recordsIn ys) (s .image))) (zero-add (length (recordsIn xs)) ∙ records-length xs)
-      ∙ next-same e (λ f₁ m. oneByOne f₁ g b payload (length xs / recordLength) (recordsIn ys) m) (λ f₁ m. raised (length xs / recordLength) (batch f₁ g b ys payload m))
-      (rest (e .fuse) (length xs / recordLength) ys (e .state .image) hy)
-      ∙ ap (λ (x : Ended). next x (λ _ f₁ s. raised (length xs / recordLength) (batch f₁ g b ys payload (s .image)))) (sym (one-by-one f g b xs payload img hx))
+      ∙ next-same e (λ f₁ m. oneByOne f₁ g b payload (length xs / perRecord) (recordsIn ys) m) (λ f₁ m. raised (length xs / perRecord) (batch f₁ g b ys payload m))
+      (rest (e .fuse) (length xs / perRecord) ys (e .state .image) hy)
+      ∙ ap (λ (x : BatchEnd). next x (λ _ f₁ s. raised (length xs / perRecord) (batch f₁ g b ys payload (s .image)))) (sym (one-by-one f g b xs payload img hx))
 
 pub joined : Joined
 unfolding Joined
@@ -143,7 +143,7 @@ joined f g b xs ys payload img w h = join g b payload f xs ys img w h
 
 module _ (g : Geometry) (b t o a n : ℕ) (records payload : List ℕ) where
   abbrev one : Record
-  one = recordOf t o a n
+  one = batchRecord t o a n
 
   first : (f : Fuse) (img : List ℕ) → Takes g (t ∷ o ∷ a ∷ n ∷ records) img
       → batch f g b (t ∷ o ∷ a ∷ n ∷ records) payload img ≡ afterOne 0 (run f (writeRecord g b payload one) img) (λ f₁ img₁. raised 1 (batch f₁ g b records payload img₁))
@@ -194,8 +194,8 @@ numbers f g b records payload img h =
     let e = one-by-one f g b records payload img h in
     let l = records-length records in
     record {
-      all = λ a. ap (λ (x : Ended). x .state .table) e ∙ all-done g b payload f 0 (recordsIn records) img (ap (λ (x : Ended). x .answer) (sym e) ∙ a) ∙ ap (λ (n : ℕ). n ∷ []) (zero-add (length (recordsIn records)) ∙ l);
-      fewer = λ k a. let s = some-done g b payload f 0 (recordsIn records) img k (ap (λ (x : Ended). x .answer) (sym e) ∙ a) in omega (arith, l, s, ap numberDone e);
+      all = λ a. ap (λ (x : BatchEnd). x .state .table) e ∙ all-done g b payload f 0 (recordsIn records) img (ap (λ (x : BatchEnd). x .answer) (sym e) ∙ a) ∙ ap (λ (n : ℕ). n ∷ []) (zero-add (length (recordsIn records)) ∙ l);
+      fewer = λ k a. let s = some-done g b payload f 0 (recordsIn records) img k (ap (λ (x : BatchEnd). x .answer) (sym e) ∙ a) in omega (arith, l, s, ap numberDone e);
     }
 
 -- ---- the units
@@ -220,10 +220,10 @@ module _ (g : Geometry) (b : ℕ) (payload : List ℕ) where
       ≡ units (writeRecord g b payload r img .events) ++ (field 0 (i + 1) ∷ writing g b payload (i + 1) rs (both (apply (writeRecord g b payload r img .events) img) ((i + 1) ∷ [])) .events)
   unfolding writing putting
   events-on i n r rs img e =
-      bind-events (onImage (writeRecord g b payload r)) (λ _. counting (i + 1) >>= λ _. writing g b payload (i + 1) rs) (both img (i ∷ [])) n (image-answer (writeRecord g b payload r) (both img (i ∷ [])) ∙ e)
-      ∙ ap₂ (λ (es : List Event) (s : Both). es ++ (counting (i + 1) >>= λ _. writing g b payload (i + 1) rs) s .events) (image-events (writeRecord g b payload r) (both img (i ∷ []))) (image-left (writeRecord g b payload r) (both img (i ∷ [])))
+      bind-events (onImage (writeRecord g b payload r)) (λ _. countTo (i + 1) >>= λ _. writing g b payload (i + 1) rs) (both img (i ∷ [])) n (image-answer (writeRecord g b payload r) (both img (i ∷ [])) ∙ e)
+      ∙ ap₂ (λ (es : List Event) (s : Both). es ++ (countTo (i + 1) >>= λ _. writing g b payload (i + 1) rs) s .events) (image-events (writeRecord g b payload r) (both img (i ∷ []))) (image-left (writeRecord g b payload r) (both img (i ∷ [])))
       ∙ ap (λ (es : List Event). units (writeRecord g b payload r img .events) ++ es)
-      (bind-events (counting (i + 1)) (λ _. writing g b payload (i + 1) rs) (both (apply (writeRecord g b payload r img .events) img) (i ∷ [])) tt refl)
+      (bind-events (countTo (i + 1)) (λ _. writing g b payload (i + 1) rs) (both (apply (writeRecord g b payload r img .events) img) (i ∷ [])) tt refl)
 
   events-stop : (i k : ℕ) (r : Record) (rs : List Record) (img : List ℕ) → writeRecord g b payload r img .answer ≡ refused k
       → writing g b payload i (r ∷ rs) (both img (i ∷ [])) .events ≡ units (writeRecord g b payload r img .events) ++ []

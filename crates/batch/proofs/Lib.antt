@@ -4,3 +4,4 @@ pub mod Laws
 pub mod Cut
 pub mod Scanned
 pub mod Resumed
+pub mod Instance

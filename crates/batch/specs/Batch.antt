@@ -19,18 +19,18 @@ use Rattle.batch.specs.declared.record.Record.{Record}
 
 -- ---- the records that a list of numbers holds
 
-abbrev pub recordLength : ℕ
-recordLength = 4
+abbrev pub perRecord : ℕ
+perRecord = 4
 
 abbrev pub mostRecords : ℕ
 mostRecords = 64
 
-abbrev pub recordOf : ℕ → ℕ → ℕ → ℕ → Record
-recordOf t o a n = record { kind = t; offset = o; start = a; length = n }
+abbrev pub batchRecord : ℕ → ℕ → ℕ → ℕ → Record
+batchRecord t o a n = record { kind = t; offset = o; start = a; length = n }
 
-abbrev pub recordAt : List ℕ → ℕ → Record
-recordAt ns i =
-    recordOf (getD ns (recordLength * i) 0) (getD ns (recordLength * i + 1) 0) (getD ns (recordLength * i + 2) 0) (getD ns (recordLength * i + 3) 0)
+abbrev pub batchRecordAt : List ℕ → ℕ → Record
+batchRecordAt ns i =
+    batchRecord (getD ns (perRecord * i) 0) (getD ns (perRecord * i + 1) 0) (getD ns (perRecord * i + 2) 0) (getD ns (perRecord * i + 3) 0)
 
 -- a part of one is none
 unfoldable pub recordsIn : List ℕ → List Record
@@ -38,11 +38,11 @@ recordsIn [] = []
 recordsIn (t ∷ []) = []
 recordsIn (t ∷ o ∷ []) = []
 recordsIn (t ∷ o ∷ a ∷ []) = []
-recordsIn (t ∷ o ∷ a ∷ n ∷ ns) = recordOf t o a n ∷ recordsIn ns
+recordsIn (t ∷ o ∷ a ∷ n ∷ ns) = batchRecord t o a n ∷ recordsIn ns
 
 -- "more than 64 records, or part of one, give 7 before any store"
 unfoldable pub batchable : Geometry → ℕ → ℕ → ℕ
-batchable g room n = admit g room (pick (leb n (mostRecords * recordLength) && eqb (n % recordLength) 0) 0 7)
+batchable g room n = admit g room (pick (leb n (mostRecords * perRecord) && eqb (n % perRecord) 0) 0 7)
 
 -- ---- one record at its turn: "a record whose payload range is outside the buffer gives 7, then one whose type is none of the three gives 4"
 
@@ -64,15 +64,15 @@ abbrev pub Batch : Type 0 → Type 0
 Batch A = OpIn beside A
 
 -- the number done becomes i
-abbrev pub counting : ℕ → Batch (Unit {0})
-counting i = putting (fields 0 0 (i ∷ [])) tt
+abbrev pub countTo : ℕ → Batch (Unit {0})
+countTo i = putting (fields 0 0 (i ∷ [])) tt
 
 -- with i done before them
 unfoldable pub writing : Geometry → ℕ → List ℕ → ℕ → List Record → Batch (Unit {0})
 writing g b payload i [] = give tt
 writing g b payload i (r ∷ rs) = do
   onImage (writeRecord g b payload r)
-  counting (i + 1)
+  countTo (i + 1)
   writing g b payload (i + 1) rs
 
 unfoldable pub writeAll : Geometry → ℕ → List ℕ → List ℕ → Batch (Unit {0})

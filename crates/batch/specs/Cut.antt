@@ -36,25 +36,25 @@ typeIn r = typeBy (objectTypeOf (r .kind))
 abbrev pub bytesOf : List ℕ → Record → List ℕ
 bytesOf payload r = part (r .start) (r .length) payload
 
-abbrev pub headerOf : ℕ → List ℕ → Record → ObjectHeader
-headerOf b payload r = newHeader (placeOf b r) (typeIn r) (bytesOf payload r)
+abbrev pub headerFor : ℕ → List ℕ → Record → ObjectHeader
+headerFor b payload r = newHeader (placeOf b r) (typeIn r) (bytesOf payload r)
 
 -- the offset behind its object
-abbrev pub behind : Geometry → List ℕ → Record → ℕ
-behind g payload r = r .offset + span (g .granularity) (g .s) (length (bytesOf payload r))
+abbrev pub behindOne : Geometry → List ℕ → Record → ℕ
+behindOne g payload r = r .offset + span (g .granularity) (g .s) (length (bytesOf payload r))
 
 -- its units: the finish mark is the last of them
-abbrev pub unitsOf : Geometry → List ℕ → Record → ℕ
-unitsOf g payload r = marksAfter g (bytesOf payload r) + 1
+abbrev pub unitsForOne : Geometry → List ℕ → Record → ℕ
+unitsForOne g payload r = marksAfter g (bytesOf payload r) + 1
 
-abbrev pub unitsTo : Geometry → List ℕ → List Record → ℕ
-unitsTo g payload [] = 0
-unitsTo g payload (r ∷ rs) = unitsOf g payload r + unitsTo g payload rs
+abbrev pub unitsForAll : Geometry → List ℕ → List Record → ℕ
+unitsForAll g payload [] = 0
+unitsForAll g payload (r ∷ rs) = unitsForOne g payload r + unitsForAll g payload rs
 
 -- how many records k units are enough for
 abbrev pub enoughFor : Geometry → List ℕ → List Record → ℕ → ℕ
 enoughFor g payload [] k = 0
-enoughFor g payload (r ∷ rs) k = pick (leb (unitsOf g payload r) k) (enoughFor g payload rs (k - unitsOf g payload r) + 1) 0
+enoughFor g payload (r ∷ rs) k = pick (leb (unitsForOne g payload r) k) (enoughFor g payload rs (k - unitsForOne g payload r) + 1) 0
 
 -- ---- what is given
 
@@ -64,12 +64,12 @@ pub record Fits (g : Geometry) (payload : List ℕ) (e : ℕ) (r : Record) : Typ
   pub lent : r .start + r .length ≤ length payload
   pub from : e ≤ r .offset
   pub aligned : r .offset % widthOf (g .granularity) ≡ 0
-  pub in-block : behind g payload r ≤ g .size
+  pub in-block : behindOne g payload r ≤ g .size
 
 -- each of them behind the one before
 abbrev pub Rising : Geometry → List ℕ → ℕ → List Record → Type 0
 Rising g payload e [] = Unit {0}
-Rising g payload e (r ∷ rs) = Fits g payload e r × Rising g payload (behind g payload r) rs
+Rising g payload e (r ∷ rs) = Fits g payload e r × Rising g payload (behindOne g payload r) rs
 
 -- a valid geometry and an image of its length, a payload of bytes, and a block that is erased from e on
 pub record Ready (g : Geometry) (b e : ℕ) (payload img : List ℕ) : Type 0 where
@@ -85,19 +85,19 @@ abbrev pub leftAt : Geometry → ℕ → List ℕ → List ℕ → List ℕ → 
 leftAt g b records payload img k = batch (Units k) g b records payload img .state .image
 
 -- a byte that is none of a record's object
-abbrev pub Off : Geometry → ℕ → List ℕ → ℕ → Record → Type 0
-Off g b payload j r = Clear (addressOf g (placeOf b r)) (addressOf g (placeOf b r) + span (g .granularity) (g .s) (length (bytesOf payload r))) j
+abbrev pub OffOne : Geometry → ℕ → List ℕ → ℕ → Record → Type 0
+OffOne g b payload j r = Clear (addressOf g (placeOf b r)) (addressOf g (placeOf b r) + span (g .granularity) (g .s) (length (bytesOf payload r))) j
 
 pub record CutAt (g : Geometry) (b : ℕ) (records payload img : List ℕ) (k : ℕ) : Type 0 where
-  pub all-done : unitsTo g payload (recordsIn records) ≤ k → batch (Units k) g b records payload img .answer ≡ done tt
-  pub cut-short : k < unitsTo g payload (recordsIn records) → batch (Units k) g b records payload img .answer ≡ refused 8
+  pub all-done : unitsForAll g payload (recordsIn records) ≤ k → batch (Units k) g b records payload img .answer ≡ done tt
+  pub cut-short : k < unitsForAll g payload (recordsIn records) → batch (Units k) g b records payload img .answer ≡ refused 8
   pub number : batch (Units k) g b records payload img .state .table ≡ enoughFor g payload (recordsIn records) k ∷ []
-  pub whole : (xs ys : List Record) (r : Record) → recordsIn records ≡ xs ++ (r ∷ ys) → unitsTo g payload xs + unitsOf g payload r ≤ k
-      → Whole g (headerOf b payload r) (typeIn r) (bytesOf payload r) (leftAt g b records payload img k)
-  pub unfinished : (xs ys : List Record) (r : Record) → recordsIn records ≡ xs ++ (r ∷ ys) → k < unitsTo g payload xs + unitsOf g payload r
+  pub whole : (xs ys : List Record) (r : Record) → recordsIn records ≡ xs ++ (r ∷ ys) → unitsForAll g payload xs + unitsForOne g payload r ≤ k
+      → Whole g (headerFor b payload r) (typeIn r) (bytesOf payload r) (leftAt g b records payload img k)
+  pub unfinished : (xs ys : List Record) (r : Record) → recordsIn records ≡ xs ++ (r ∷ ys) → k < unitsForAll g payload xs + unitsForOne g payload r
       → Unfinished g (placeOf b r) (typeIn r) (leftAt g b records payload img k)
   pub long : length (leftAt g b records payload img k) ≡ length img
-  pub elsewhere : (j : ℕ) → All (Off g b payload j) (recordsIn records) → getD (leftAt g b records payload img k) j 0 ≡ getD img j 0
+  pub elsewhere : (j : ℕ) → All (OffOne g b payload j) (recordsIn records) → getD (leftAt g b records payload img k) j 0 ≡ getD img j 0
 
 unfoldable pub BatchCuts : Type 0
 BatchCuts =
@@ -108,4 +108,4 @@ BatchCuts =
 unfoldable pub BatchPowered : Type 0
 BatchPowered =
     (g : Geometry) (b e : ℕ) (records payload img : List ℕ) → Takes g records img → Ready g b e payload img → Rising g payload e (recordsIn records)
-    → batch Absent g b records payload img ≡ endOf (done tt) Absent (leftAt g b records payload img (unitsTo g payload (recordsIn records))) (length (recordsIn records))
+    → batch Absent g b records payload img ≡ endOf (done tt) Absent (leftAt g b records payload img (unitsForAll g payload (recordsIn records))) (length (recordsIn records))

@@ -6,12 +6,12 @@ use lib.ListN.{length, drop}
 use Rattle.medium.specs.declared.geometry.Geometry.{Geometry}
 use Rattle.medium.specs.declared.fuse.Fuse.the-variants.{Absent, Units}
 use Rattle.medium.specs.Operation.{done}
-use Rattle.batch.specs.Batch.{recordLength, recordsIn}
+use Rattle.batch.specs.Batch.{perRecord, recordsIn}
 use Rattle.batch.specs.Laws.{endOf, batch, numberDone, Takes}
 use Rattle.batch.specs.Cut.{Rising, Ready}
 
 abbrev pub restOf : List ℕ → ℕ → List ℕ
-restOf records n = drop (recordLength * n) records
+restOf records n = drop (perRecord * n) records
 
 unfoldable pub BatchResumes : Type 0
 BatchResumes =

@@ -2,7 +2,7 @@
 ghost use mathlib.Core.Path.{_≡_};
 ghost use Prim.Native.Nat.{_+_, _*_, _≤_};
 ghost use lib.ListN.{length};
-ghost use Rattle.batch.specs.Batch.{recordLength, recordAt};
+ghost use Rattle.batch.specs.Batch.{perRecord, batchRecordAt};
 
 pub struct Record {
     pub kind: u32,
@@ -17,8 +17,8 @@ impl Record {
 
     // Record i of a list.
     pub(crate) fn at(records: &[u32], i: u32) -> Record
-        requires { ⌜ recordLength * (i + 1) ≤ length (now records) ⌝ }
-        ensures { λ r. ⌜ r ≡ recordAt (now (records .entry)) i ⌝ }
+        requires { ⌜ perRecord * (i + 1) ≤ length (now records) ⌝ }
+        ensures { λ r. ⌜ r ≡ batchRecordAt (now (records .entry)) i ⌝ }
     {
         let from = Self::LENGTH * (i as usize);
         Record {

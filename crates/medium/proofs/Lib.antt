@@ -16,3 +16,4 @@ pub mod Stores
 pub mod Programs
 pub mod Traced
 pub mod Writes
+pub mod Computed

@@ -1,19 +1,15 @@
 -- The demand is not empty: the objects of rows 1, 2 and 3, one of each granularity, moved to block 2, meet what is given. The first is row 11.
-use mathlib.Core.Path.{_≡_, refl, sym, ap, _∙_}
+use mathlib.Core.Path.{_≡_, refl}
 use mathlib.Core.Logic.{inl}
-use mathlib.Core.Bool.{Bool, true, false, _&&_}
 use mathlib.Core.List.{List, [], _∷_}
-use Prim.Native.Nat.{ℕ, zero, suc, _+_, _-_, _≤_, _<_}
-use native.Mathlib.Omega.{arith}
-use lib.ListN.{getD, replicate, getD-replicate}
-use lib.Dec.{T, ltb, ltb→lt, lit<, lit≤}
-use lib.Pow.{areBytes}
+use Prim.Native.Nat.{ℕ, _-_, _≤_, _<_}
+use lib.Dec.{lit<, lit≤}
 use Rattle.medium.specs.declared.granularity.Granularity.the-variants.{Bit, Word1, Word4}
 use Rattle.medium.specs.declared.fuse.Fuse.the-variants.{Absent, Units}
 use Rattle.medium.specs.Geometry.{geometryOk, admit}
 use Rattle.medium.specs.Operation.{_>>=_, ask, test, putting, run}
 use Rattle.medium.specs.Bench.{four, holding}
-use Rattle.medium.specs.Medium.{part, readable, writable, readAt, write}
+use Rattle.medium.specs.Medium.{readable, writable, readAt, write}
 use Rattle.objects.specs.declared.types.ObjectType.the-variants.{FileData}
 use Rattle.objects.specs.declared.state.ObjectDataState.the-variants.{Valid}
 use Rattle.objects.specs.declared.state.CompositeObjectState.the-variants.{Allocated}
@@ -29,27 +25,9 @@ use Rattle.writer.specs.Writer.{soundOf, allocate, mayWrite, putBytes, writeSom
 use Rattle.moving.specs.Moving.{sourceAt, chunk, copying, copyObject, moveObject}
 use Rattle.powercut.specs.Demand.{payloadIn, Movable, unitsTo, Survives, Demand}
 use Rattle.powercut.specs.Listed.{payloadRead, isCopy, Listable, copiesBefore, copiesAfter, Counted, Listings}
-use Rattle.medium.proofs.Bytes.{getD-part}
+use Rattle.medium.proofs.Computed.{bytes-by, blank-by}
 use Rattle.powercut.proofs.Survive.{demand}
 use Rattle.powercut.proofs.Listed.{listings}
-
--- ---- tests that compute
-
-and-l : (a b : Bool) → T (a && b) → T a
-and-l true b h = tt
-and-l false b h = h
-
-and-r : (a b : Bool) → T (a && b) → T b
-and-r true b h = h
-and-r false b h = absurd h
-
-bytes-by : (img : List ℕ) → T (areBytes img) → (j : ℕ) → getD img j 0 < 256
-bytes-by [] h j = omega arith
-bytes-by (x ∷ xs) h zero = ltb→lt x 256 (and-l (ltb x 256) (areBytes xs) h)
-bytes-by (x ∷ xs) h (suc j) = bytes-by xs (and-r (ltb x 256) (areBytes xs) h) j
-
-blank-by : (a n : ℕ) (img : List ℕ) → part a n img ≡ replicate n 255 → (i : ℕ) → i < n → getD img (a + i) 0 ≡ 255
-blank-by a n img e i h = sym (getD-part a n img i 0 h) ∙ ap (λ (bs : List ℕ). getD bs i 0) e ∙ getD-replicate n i 255 0 h
 
 -- ---- A, C and B with the object of rows 1, 2 and 3
 
