@@ -14,7 +14,6 @@ use writer::writer::ObjectWriter;
 use writer::writer::Wrote;
 ghost use mathlib.Core.Path.{_≡_};
 ghost use mathlib.Core.List.{[], _∷_};
-ghost use lib.ListN.{length};
 ghost use Rattle.medium.specs.Operation.{run, ended};
 ghost use Rattle.medium.specs.Beside.{both};
 ghost use Rattle.writer.specs.Writer.{wroteEnd};
