@@ -69,13 +69,13 @@ FirstThenRest =
 
 -- ---- the number: all of them where the call is done, and fewer where a record is refused
 
-pub record Numbered (records img : List ℕ) (e : BatchEnd) : Type 0 where
+pub record Numbered (records : List ℕ) (e : BatchEnd) : Type 0 where
   pub all : e .answer ≡ done tt → e .state .table ≡ (length records / perRecord) ∷ []
   pub fewer : (k : ℕ) → e .answer ≡ refused k → numberDone e < length records / perRecord
 
 unfoldable pub Numbers : Type 0
 Numbers =
-    (f : Fuse) (g : Geometry) (b : ℕ) (records payload img : List ℕ) → Takes g records img → Numbered records img (batch f g b records payload img)
+    (f : Fuse) (g : Geometry) (b : ℕ) (records payload img : List ℕ) → Takes g records img → Numbered records (batch f g b records payload img)
 
 -- ---- the units are those of the single calls, one after the other
 
