@@ -10,6 +10,7 @@ pub mod Left
 pub mod Events
 pub mod Beside
 pub mod Places
+pub mod Aligned
 pub mod Checks
 pub mod Ranges
 pub mod Stores

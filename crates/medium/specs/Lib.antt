@@ -1,6 +1,7 @@
 pub mod All
 pub mod Answer
 pub mod Granularity
+pub mod Aligned
 pub mod Geometry
 pub mod Fuse
 pub mod Units

@@ -84,12 +84,13 @@ impl Granularity {
         }
     }
 
-    // n bytes aligned up to whole units.
+    // "Aligned up": n bytes in whole units of w, the least multiple of w that is not below n.
     pub fn align(self, n: u32) -> usize
         ensures { λ r. ⌜ r ≡ alignOf (widthOf self) n ⌝ }
     {
         let w = self.width();
-        units(w, n as usize) * w
+        let n = n as usize;
+        (n + w - 1) / w * w
     }
 }
 
