@@ -65,6 +65,19 @@ fn words_are_aligned_and_padded_with_ff() {
     });
 }
 
+/// "Aligned up" on one line, and the branches of the text's `align`: the same for words of any length.
+#[test]
+#[allow(clippy::manual_div_ceil)]
+fn the_line_that_aligns_gives_what_the_texts_branches_give() {
+    assert_eq!(text::ALIGNS.is_empty(), !text::PRESENT);
+    let last = u32::MAX as usize;
+    for &(w, align) in text::ALIGNS {
+        for n in (0..=3 * w + 300).chain(last - 2 * w..=last) {
+            assert_eq!(align(n), (n + w - 1) / w * w, "{n} in words of {w}");
+        }
+    }
+}
+
 #[test]
 fn range_comes_before_power() {
     for granularity in [0, 1, 4] {

@@ -37,6 +37,8 @@ mod instances;
 mod panics;
 #[cfg(norfs_text)]
 mod run;
+#[cfg(norfs_text)]
+mod words;
 
 /// Whether the text is compiled in.
 pub const PRESENT: bool = cfg!(norfs_text);
@@ -51,6 +53,15 @@ pub fn run(case: &case::Case) -> Option<outcome::Outcome> {
 pub fn run(_: &case::Case) -> Option<outcome::Outcome> {
     None
 }
+
+/// The text's `align` for words of one length.
+pub type Align = fn(usize) -> usize;
+
+/// Lengths of words, each with its `align`; none without the text.
+#[cfg(norfs_text)]
+pub use words::ALIGNS;
+#[cfg(not(norfs_text))]
+pub const ALIGNS: &[(usize, Align)] = &[];
 
 /// The pairs of block size and count that the text is compiled for.
 pub const SIZES: [(u32, u32); 16] = [

@@ -40,9 +40,10 @@ fn erases(granularity: u8, visit: Visit) -> bool {
     })
 }
 
+/// Every length that a block can have, and the longest that can be named.
 fn aligns(granularity: u8, visit: Visit) -> bool {
     let g = small(granularity, 1, 1);
-    let numbers = (0..=300).chain(u32::MAX - 9..=u32::MAX);
+    let numbers = (0..=65_540).chain(u32::MAX - 9..=u32::MAX);
     numbers.into_iter().all(|n| visit(Case { args: vec![n], ..Case::of(Op::Align, g) }))
 }
 
