@@ -32,7 +32,7 @@ pub fn lend(g: Geometry, image: &[u8], h: ObjectHeader) -> &[u8]
     medium::lend(g, image, place.block, at(g, h), h.payload(g.s))
 }
 
-fn is_equal(a: &[u8], b: &[u8]) -> bool
+pub fn is_equal(a: &[u8], b: &[u8]) -> bool
     ensures { λ r. ⌜ r ≡ equal (now (a .entry)) (now (b .entry)) ⌝ }
 {
     if a.len() != b.len() {

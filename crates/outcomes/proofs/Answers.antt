@@ -69,6 +69,12 @@ use Rattle.crossing.specs.declared.records.BlockTypeRead.the-variants as block-
 use Rattle.objects.specs.declared.types.ObjectTypeRead.{ObjectTypeRead}
 use Rattle.objects.specs.declared.types.ObjectTypeRead.the-variants as object-type
 use Rattle.batch.specs.declared.Batched.{Batched}
+use Rattle.storage.specs.declared.visit.Visited.{Visited}
+use Rattle.storage.specs.declared.visit.Visited.the-variants as visited
+use Rattle.storage.specs.declared.names.NextName.{NextName}
+use Rattle.storage.specs.declared.names.NextName.the-variants as next-name
+use Rattle.storage.specs.Order as order
+use Rattle.storage.specs.Names as names
 use Rattle.outcomes.proofs.One.{one}
 
 -- ---- a value or a refusal
@@ -237,6 +243,32 @@ next-location-one = one nextLocationAnswer next-location-back (λ r. go r)
     go (next-location.At l m) = refl
     go next-location.End = refl
     go (next-location.Refused n) = refl
+
+abbrev visit-back : Answer order.Seen → Visited
+visit-back (done (order.object h v)) = visited.Object h v
+visit-back (done order.storeEnd) = visited.End
+visit-back (refused n) = visited.Refused n
+
+pub visit-one : {r r′ : Visited} → order.visitAnswer r ≡ order.visitAnswer r′ → r ≡ r′
+visit-one = one order.visitAnswer visit-back (λ r. go r)
+  where
+    go : (r : Visited) → visit-back (order.visitAnswer r) ≡ r
+    go (visited.Object h v) = refl
+    go visited.End = refl
+    go (visited.Refused n) = refl
+
+abbrev name-back : Answer names.NameOut → NextName
+name-back (done (names.named n at i)) = next-name.Name n at i
+name-back (done names.none) = next-name.End
+name-back (refused n) = next-name.Refused n
+
+pub name-one : {r r′ : NextName} → names.nameAnswer r ≡ names.nameAnswer r′ → r ≡ r′
+name-one = one names.nameAnswer name-back (λ r. go r)
+  where
+    go : (r : NextName) → name-back (names.nameAnswer r) ≡ r
+    go (next-name.Name n at i) = refl
+    go next-name.End = refl
+    go (next-name.Refused n) = refl
 
 abbrev plan-back : Answer Planned → Plan
 plan-back (done keep) = plan.Keep

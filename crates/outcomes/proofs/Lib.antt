@@ -11,6 +11,7 @@ pub mod CfaceBatch
 pub mod Lines
 pub mod Moving
 pub mod Batch
+pub mod Storage
 pub mod Powercut
 pub mod Crossing
 pub mod GeometryRecord

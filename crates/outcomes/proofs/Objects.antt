@@ -31,6 +31,7 @@ use Rattle.objects.proofs.metadata.MetadataObjectHeader.reset.Reads as metadata
 use Rattle.objects.proofs.payload.at.Reads as payload-at
 use Rattle.objects.proofs.payload.reach.Reads as payload-reach
 use Rattle.objects.proofs.payload.lend.Reads as payload-lend
+use Rattle.objects.proofs.payload.is_equal.Reads as payload-is-equal
 use Rattle.objects.proofs.payload.is_same.Reads as payload-is-same
 use Rattle.objects.proofs.reader.ReaderRead.number.Reads as reader-ReaderRead-number
 use Rattle.objects.proofs.reader.Reading.number.Reads as reader-Reading-number
@@ -138,6 +139,9 @@ payload-reach-one _ _ r r′ e e′ p q = p ∙ sym q
 
 pub payload-lend-one : One payload-lend.Post (λ _ r e r′ e′. now r ≡ now r′)
 payload-lend-one _ _ r r′ e e′ p q = p ∙ sym q
+
+pub payload-is-equal-one : One payload-is-equal.Post (λ _ r e r′ e′. r ≡ r′)
+payload-is-equal-one _ _ r r′ e e′ p q = p ∙ sym q
 
 pub payload-is-same-one : One payload-is-same.Post (λ _ r e r′ e′. r ≡ r′)
 payload-is-same-one _ _ r r′ e e′ p q = p ∙ sym q

@@ -1,0 +1,9 @@
+pub mod Order
+pub mod Looking
+pub mod Pieces
+pub mod Naming
+pub mod Ranges
+pub mod Heads
+pub mod Finding
+pub mod ByList
+pub mod Joining
