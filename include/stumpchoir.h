@@ -13,7 +13,8 @@
  *
  * Pointers: none is kept after a call. No two of one call may overlap. `units` may be null where `fused` is false, and a buffer may be where
  * its length is 0; no other may be. A length has to be that of the buffer, since no call can tell
- * a false one. Bytes to read or write that are longer than a block get 3, by a writer 5, even SIZE_MAX; that is all a test can see.
+ * a false one. Bytes to write that are longer than a block get 3, by a writer 5, and so does stumpchoir_read of so many, even of SIZE_MAX; that
+ * is all a test can see.
  * There is no heap and no state beside what is lent, so calls on different images may run at the same time. Calls take less than 16 KiB of
  * stack (5,336 to 8,424 bytes with the thread's own were measured by tools/c-sample).
  *
@@ -41,7 +42,8 @@ enum stumpchoir_answer {
     STUMPCHOIR_BAD_GEOMETRY = 6,
     STUMPCHOIR_BAD_ROOM = 7,
     STUMPCHOIR_POWER_LOST = 8,
-    STUMPCHOIR_RUST_PANIC = 9
+    STUMPCHOIR_RUST_PANIC = 9,
+    STUMPCHOIR_NOT_FOUND = 13
 };
 
 /* How finely a chip is programmed: by the bit, by words of a byte, by words of four. */
@@ -76,7 +78,7 @@ enum stumpchoir_kind {
     STUMPCHOIR_KIND_UNDEFINED = 4
 };
 
-/* What *found says: a free place (or the end of a list of locations), something, the end of a block. */
+/* What *found says: a free place (or the end of a list of locations or names), something, the end of a block. */
 enum stumpchoir_found {
     STUMPCHOIR_FOUND_NONE = 0,
     STUMPCHOIR_FOUND = 1,
@@ -120,6 +122,16 @@ struct stumpchoir_iterator {
 typedef char stumpchoir_iterator_is_2_numbers[sizeof(struct stumpchoir_iterator) == 2 * sizeof(uint32_t) ? 1 : -1];
 enum stumpchoir_iterator_index {
     STUMPCHOIR_ITERATOR_BLOCK = 0, STUMPCHOIR_ITERATOR_OFFSET = 1
+};
+
+/* A place in a store from which file names are listed. */
+struct stumpchoir_names {
+    uint32_t block;
+    uint32_t offset;
+};
+typedef char stumpchoir_names_is_2_numbers[sizeof(struct stumpchoir_names) == 2 * sizeof(uint32_t) ? 1 : -1];
+enum stumpchoir_names_index {
+    STUMPCHOIR_NAMES_BLOCK = 0, STUMPCHOIR_NAMES_OFFSET = 1
 };
 
 /* An object: an enum stumpchoir_type, an enum stumpchoir_state (Free has type FF, and no other has), the payload size as read or set,
@@ -403,6 +415,28 @@ uint8_t stumpchoir_erase_full_finished_blocks(STUMPCHOIR_GEOMETRY, STUMPCHOIR_ST
 
 /* A collection: the three passes in order. */
 uint8_t stumpchoir_run(STUMPCHOIR_GEOMETRY, STUMPCHOIR_STORE, uint32_t *table, size_t table_len);
+
+/* ---- Files by their names ----
+ *
+ * The hash of a path is the caller's: whatever was stored with it. Nothing is stored here, and no power is needed. */
+
+/* Where the metadata object of a file is, by its path and the hash of the path: the first Finalized object of Metadata blocks, in
+ * block and offset order, that has both; 13 where none has. What is refused on the way ends the search. */
+uint8_t stumpchoir_lookup(STUMPCHOIR_GEOMETRY, STUMPCHOIR_IMAGE, const uint8_t *path, size_t path_len, uint32_t hash, struct stumpchoir_location *location);
+
+/* How long the file is whose metadata object is at a place: every data object is opened. */
+uint8_t stumpchoir_file_size(STUMPCHOIR_GEOMETRY, STUMPCHOIR_IMAGE, uint32_t block, uint32_t offset, uint64_t *size);
+
+/* Its bytes from a position on, into the first *read bytes of the buffer; none at or past its end. Once the buffer is full no more is
+ * opened. A refused read leaves the whole buffer as it was. */
+uint8_t stumpchoir_file_read(STUMPCHOIR_GEOMETRY, STUMPCHOIR_IMAGE, uint32_t block, uint32_t offset, uint64_t position, uint8_t *buffer, size_t buffer_len, uint64_t *read);
+
+/* Before the first name. */
+uint8_t stumpchoir_names_new(STUMPCHOIR_GEOMETRY, struct stumpchoir_names *names);
+
+/* The next name, in the order of a lookup, into the first *len bytes of the buffer: *found is 1 with it, with the place of its
+ * metadata object and with the names behind it; 0 at the end, and then nothing else changes. 7 for a name longer than the buffer. */
+uint8_t stumpchoir_names_next(STUMPCHOIR_GEOMETRY, STUMPCHOIR_IMAGE, struct stumpchoir_names *names, uint8_t *buffer, size_t buffer_len, uint32_t *found, struct stumpchoir_location *location, uint64_t *len);
 
 #ifdef __cplusplus
 }

@@ -223,6 +223,28 @@ BATCH = [
          args='g, image, f, block, records, payload', means='writeAll g block records payload', hand='batched'),
 ]
 
+STORAGE = [
+    dict(name='lookup',
+         says='Where the metadata object of a file is, by its path and the hash of the path: the first Finalized object of Metadata blocks, in '
+              'block and offset order, that has both; 13 where none has. What is refused on the way ends the search.',
+         place='image', params='path[] hash location>location', calls='storage::lookup::lookup', args='g, image, path, hash',
+         means='lookup g path hash image', hand='location'),
+    dict(name='file_size', says='How long the file is whose metadata object is at a place: every data object is opened.', place='image',
+         params='block offset size>u64', calls='storage::file::size', args='g, image, at', means='fileSize g at image', hand='count'),
+    dict(name='file_read',
+         says='Its bytes from a position on, into the first *read bytes of the buffer; none at or past its end. Once the buffer is full no more '
+              'is opened. A refused read leaves the whole buffer as it was.',
+         place='image', params='block offset position:u64 buffer[]> read>u64', calls='cface_storage::files::read',
+         args='g, image, at, position, buffer, read', means='readFile g at position (length buffer) image', by='bytesOut'),
+    dict(name='names_new', says='Before the first name.', place='alone', params='names>names', calls='cface_storage::listed::start',
+         args='g, names', means='fitting g (done (namesFrom g))', **{'as': 'namesNumbers'}),
+    dict(name='names_next',
+         says='The next name, in the order of a lookup, into the first *len bytes of the buffer: *found is 1 with it, with the place of its '
+              'metadata object and with the names behind it; 0 at the end, and then nothing else changes. 7 for a name longer than the buffer.',
+         place='image', params='names=names buffer[]> found>u32 location>location len>u64', calls='cface_storage::listed::next',
+         args='g, image, names, buffer, found, location, len', means='nextName g (namesOf names) (length buffer) image', by='nameOut'),
+]
+
 BLOCKS = [
     dict(name='block_header_read', says='The header of a block: kind and erase count.', place='image', params='block header>block_header',
          calls='blocks::header::BlockHeader::read', args='g, image, block', means='blockHeaderAt g block image', hand='block_header'),
@@ -276,7 +298,8 @@ COLLECTOR = [
 ]
 
 # the crate that a module's functions are in, where it is not cface
-CRATES = {'block_calls': 'cface_blocks', 'record_calls': 'cface_blocks', 'collector_calls': 'cface_blocks', 'batch_calls': 'cface_batch'}
+CRATES = {'block_calls': 'cface_blocks', 'record_calls': 'cface_blocks', 'collector_calls': 'cface_blocks', 'batch_calls': 'cface_batch',
+          'storage_calls': 'cface_storage'}
 
 GROUPS = [
     ('medium_calls', 'The medium for C.', '/* ---- The medium ---- */', MEDIUM),
@@ -302,6 +325,9 @@ GROUPS = [
  *
  * The table is lent: a record a block, four numbers each, table_len counted in numbers. 7 for another length, and 4 for an impossible kind
  * or mark anywhere in it, before any step. After a refusal image and table have exactly what was stored before. */''', COLLECTOR),
+    ('storage_calls', 'Files by their names, for C.', '''/* ---- Files by their names ----
+ *
+ * The hash of a path is the caller's: whatever was stored with it. Nothing is stored here, and no power is needed. */''', STORAGE),
 ]
 
 # ---- the numbers that cross together: a struct with its fields (name, how many numbers), and what it is
@@ -314,6 +340,7 @@ STRUCTS = {
         fields=[('granularity', 1), ('s', 1), ('c', 1), ('reserved', 1), ('block_size', 1), ('block_count', 1)]),
     'location': dict(says='A place in a block.', fields=[('block', 1), ('offset', 1)]),
     'iterator': dict(says='A place in a block from which it is listed.', fields=[('block', 1), ('offset', 1)]),
+    'names': dict(says='A place in a store from which file names are listed.', fields=[('block', 1), ('offset', 1)]),
     'header': dict(
         says='An object: an enum stumpchoir_type, an enum stumpchoir_state (Free has type FF, and no other has), the payload size as read or '
              'set, and its place.',
@@ -339,7 +366,7 @@ STRUCTS = {
 ENUMS = {
     'answer': ('What every function answers.', [
         ('DONE', 0), ('NOT_FORMATTED', 1), ('FS_CORRUPTED', 2), ('IO', 3), ('INVALID_OPERATION', 4), ('INSUFFICIENT_SPACE', 5),
-        ('BAD_GEOMETRY', 6), ('BAD_ROOM', 7), ('POWER_LOST', 8), ('RUST_PANIC', 9)]),
+        ('BAD_GEOMETRY', 6), ('BAD_ROOM', 7), ('POWER_LOST', 8), ('RUST_PANIC', 9), ('NOT_FOUND', 13)]),
     'granularity': ('How finely a chip is programmed: by the bit, by words of a byte, by words of four.', [
         ('BIT', 0), ('WORD1', 1), ('WORD4', 4)]),
     'type': ('Types of objects, as their bytes; FREE where there is none.', [
@@ -348,7 +375,7 @@ ENUMS = {
         ('STATE_FREE', 0), ('STATE_ALLOCATED', 1), ('STATE_FINALIZED', 2), ('STATE_DELETED', 3)]),
     'kind': ('Kinds of blocks. The last three are the types that a block can be given.', [
         ('KIND_EMPTY', 0), ('KIND_UNKNOWN', 1), ('KIND_METADATA', 2), ('KIND_DATA', 3), ('KIND_UNDEFINED', 4)]),
-    'found': ('What *found says: a free place (or the end of a list of locations), something, the end of a block.', [
+    'found': ('What *found says: a free place (or the end of a list of locations or names), something, the end of a block.', [
         ('FOUND_NONE', 0), ('FOUND', 1), ('FOUND_END', 2)]),
 }
 
@@ -367,7 +394,8 @@ HEAD = r"""/* Stumpchoir for C: the low-level layer of norfs over an image in me
  *
  * Pointers: none is kept after a call. No two of one call may overlap. `units` may be null where `fused` is false, and a buffer may be where
  * its length is 0; no other may be. A length has to be that of the buffer, since no call can tell
- * a false one. Bytes to read or write that are longer than a block get 3, by a writer 5, even SIZE_MAX; that is all a test can see.
+ * a false one. Bytes to write that are longer than a block get 3, by a writer 5, and so does stumpchoir_read of so many, even of SIZE_MAX; that
+ * is all a test can see.
  * There is no heap and no state beside what is lent, so calls on different images may run at the same time. Calls take less than 16 KiB of
  * stack (5,336 to 8,424 bytes with the thread's own were measured by tools/c-sample).
  *

@@ -88,6 +88,31 @@ static void blocks(void)
     CALL(block_header_write, POWER, 0, STUMPCHOIR_KIND_DATA, 7);
 }
 
+/* Block 1 anew, with a file: its name, and twice the same data, are in block 3. */
+static void files(void)
+{
+    static const uint8_t path[] = "a path of two turns"; /* 20 bytes, with its 0 */
+    static const uint8_t payload[13] = {7, 0, 0, 0, 3, 0, 64, 3, 0, 128, 3, 0, 128};
+    struct stumpchoir_names names;
+    struct stumpchoir_location location;
+    uint32_t found;
+    uint64_t n;
+    uint8_t refused = CALL(names_new, &names);
+    stumpchoir_format_block(&g, POWER, 1);
+    stumpchoir_set_block_type(&g, POWER, 1, STUMPCHOIR_KIND_METADATA);
+    stumpchoir_write_to(&g, POWER, 3, 16384, STUMPCHOIR_TYPE_FILE_NAME, path, sizeof path, &n);
+    stumpchoir_write_to(&g, POWER, 3, 32768, STUMPCHOIR_TYPE_FILE_DATA, bytes, 1000, &n);
+    stumpchoir_write_to(&g, POWER, 1, names.offset, STUMPCHOIR_TYPE_FILE_METADATA, payload, sizeof payload, &n);
+    refused |= CALL(lookup, IMAGE, path, sizeof path, 7, &location);
+    refused |= CALL(file_size, IMAGE, location.block, location.offset, &n);
+    refused |= CALL(file_read, IMAGE, location.block, location.offset, 500, bytes, sizeof bytes, &n);
+    refused |= CALL(names_next, IMAGE, &names, bytes, sizeof bytes, &found, &location, &n);
+    if (refused || n != sizeof path) {
+        fprintf(stderr, "a file is not found, not read or not listed\n");
+        exit(1);
+    }
+}
+
 static void *every(void *none)
 {
     uint64_t n;
@@ -102,6 +127,7 @@ static void *every(void *none)
     CALL(read, IMAGE, 0, 0, bytes, sizeof bytes);
     objects();
     blocks();
+    files();
     CALL(erase, POWER, 3);
     CALL(write, POWER, 3, 0, bytes, 100);
     return none;

@@ -18,9 +18,9 @@ use Rattle.objects.specs.Reader.{Chunk, Counting, readingAnswer, counting, fill
 use Rattle.objects.specs.Location.{locationLength, locationBytes, intoBytes}
 use Rattle.objects.proofs.Numbers.{length-bytes}
 use Rattle.objects.proofs.Answers.{gate-stop}
-use Rattle.crossing.specs.Crossing.{told, keptBy, tellingBy, two}
+use Rattle.crossing.specs.Crossing.{told, keptBy, tellingBy, two, bytesOut}
 use Rattle.crossing.specs.Values.{readerNumbers}
-use Rattle.cface.specs.Objects.{bytesOut, chunkOut}
+use Rattle.cface.specs.Objects.{chunkOut}
 
 -- ---- a location's bytes over the first of a longer array
 

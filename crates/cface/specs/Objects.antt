@@ -1,22 +1,14 @@
--- What crosses of the objects beside what crate crossing has: values with a cursor, a location's bytes, and the bytes of a read.
-use mathlib.Core.List.{List, _++_}
+-- What crosses of the objects beside what crate crossing has: values with a cursor, and the bytes of a read.
+use mathlib.Core.List.{List}
 use Prim.Native.Nat.{ℕ, _<_}
-use lib.ListN.{length, drop}
+use lib.ListN.{length}
 use Rattle.medium.specs.Operation.{Answer, done, refused, andThen}
 use Rattle.objects.specs.declared.reader.ObjectReader.{ObjectReader}
 use Rattle.objects.specs.declared.metadata.MetadataObjectHeader.{MetadataObjectHeader}
 use Rattle.objects.specs.Metadata.{Listed, location, noMore, resetOf}
 use Rattle.objects.specs.Reader.{Chunk, rewound}
-use Rattle.crossing.specs.Crossing.{Two, two}
+use Rattle.crossing.specs.Crossing.{Two, two, overFirst}
 use Rattle.crossing.specs.Values.{readerOf, readerNumbers, metadataOf, metadataNumbers, locationNumbers}
-
--- ---- a location's bytes: the first, with the rest as it was, and how many
-
-abbrev pub overFirst : List ℕ → List ℕ → List ℕ
-overFirst bs old = bs ++ drop (length bs) old
-
-abbrev pub bytesOut : List ℕ → Two (List ℕ) ℕ → Two (List ℕ) ℕ
-bytesOut bs old = two (overFirst bs (old .first)) (length bs)
 
 -- ---- readers
 

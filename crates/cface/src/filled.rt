@@ -8,8 +8,7 @@ ghost use Prim.Native.Nat.{_≤_};
 ghost use lib.ListN.{length};
 ghost use Rattle.medium.specs.Medium.{readAt};
 ghost use Rattle.objects.specs.Location.{locationLength, intoBytes};
-ghost use Rattle.crossing.specs.Crossing.{told, telling, tellingBy, plain, two};
-ghost use Rattle.cface.specs.Objects.{bytesOut};
+ghost use Rattle.crossing.specs.Crossing.{told, telling, tellingBy, plain, two, bytesOut};
 
 // A range of one block, over the whole buffer.
 pub(crate) fn read(g: Geometry, image: &[u8], block: u32, offset: u32, buffer: &mut [u8]) -> u8

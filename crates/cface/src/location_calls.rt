@@ -6,8 +6,7 @@ use crossing::outs;
 use objects::location::ObjectLocation;
 ghost use mathlib.Core.Path.{_≡_};
 ghost use Rattle.objects.specs.Location.{intoBytes, locationLength, fromBytes};
-ghost use Rattle.cface.specs.Objects.{bytesOut};
-ghost use Rattle.crossing.specs.Crossing.{told, two, tellingBy, geometryIn, telling};
+ghost use Rattle.crossing.specs.Crossing.{told, two, tellingBy, bytesOut, geometryIn, telling};
 ghost use Rattle.crossing.specs.Values.{located, locationNumbers};
 
 // The bytes of a location: the first c + s of the six are set, and *len is c + s.

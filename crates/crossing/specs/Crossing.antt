@@ -1,8 +1,8 @@
 -- What crosses between C and the library, said once for every function.
 use mathlib.Core.Bool.{Bool, true, false}
-use mathlib.Core.List.{List}
+use mathlib.Core.List.{List, _++_}
 use Prim.Native.Nat.{ℕ}
-use lib.ListN.{length}
+use lib.ListN.{length, drop}
 use Rattle.medium.specs.declared.granularity.Granularity.the-variants.{Bit}
 use Rattle.medium.specs.declared.geometry.Geometry.{Geometry}
 use Rattle.medium.specs.declared.fuse.Fuse.{Fuse}
@@ -128,3 +128,11 @@ two a b = record { first = a; second = b }
 -- a value that crosses as it is
 abbrev pub plain : {A : Type 0} → A → A
 plain a = a
+
+-- ---- out: bytes that fill the first of a buffer, with the rest as it was, and how many
+
+abbrev pub overFirst : List ℕ → List ℕ → List ℕ
+overFirst bs old = bs ++ drop (length bs) old
+
+abbrev pub bytesOut : List ℕ → Two (List ℕ) ℕ → Two (List ℕ) ℕ
+bytesOut bs old = two (overFirst bs (old .first)) (length bs)

@@ -108,7 +108,7 @@ pub fn hand_location(answer: LocationRead, out: &mut [u32; 2]) -> u8
     }
 }
 
-fn put_iterator(i: ObjectIterator, out: &mut [u32; 2])
+pub fn put_iterator(i: ObjectIterator, out: &mut [u32; 2])
     ensures { λ _. ⌜ now (out .exit) ≡ iteratorNumbers i ⌝ }
 {
     let at = i.location;

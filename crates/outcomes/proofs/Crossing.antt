@@ -17,6 +17,7 @@ use Rattle.crossing.proofs.outs.hand_header.Reads as outs-hand-header
 use Rattle.crossing.proofs.outs.hand_info.Reads as outs-hand-info
 use Rattle.crossing.proofs.outs.put_location.Reads as outs-put-location
 use Rattle.crossing.proofs.outs.hand_location.Reads as outs-hand-location
+use Rattle.crossing.proofs.outs.put_iterator.Reads as outs-put-iterator
 use Rattle.crossing.proofs.outs.start.Reads as outs-start
 use Rattle.crossing.proofs.outs.hand_next.Reads as outs-hand-next
 use Rattle.crossing.proofs.records.BlockTypeRead.number.Reads as records-BlockTypeRead-number
@@ -72,6 +73,9 @@ outs-put-location-one _ _ r r′ e e′ p q = p ∙ sym q
 
 pub outs-hand-location-one : One outs-hand-location.Post (λ _ r e r′ e′. (r ≡ r′) × (now (e .1 .0) ≡ now (e′ .1 .0)))
 outs-hand-location-one _ _ r r′ e e′ p q = let s = p ∙ sym q in (ap (λ (z : Telling _). z .number) s, ap (λ (z : Telling _). z .out) s)
+
+pub outs-put-iterator-one : One outs-put-iterator.Post (λ _ r e r′ e′. now (e .1 .0) ≡ now (e′ .1 .0))
+outs-put-iterator-one _ _ r r′ e e′ p q = p ∙ sym q
 
 pub outs-start-one : One outs-start.Post (λ _ r e r′ e′. (r ≡ r′) × (now (e .1 .1 .0) ≡ now (e′ .1 .1 .0)))
 outs-start-one _ _ r r′ e e′ p q = let s = p ∙ sym q in (ap (λ (z : Telling _). z .number) s, ap (λ (z : Telling _). z .out) s)

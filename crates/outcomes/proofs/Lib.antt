@@ -8,6 +8,7 @@ pub mod Collector
 pub mod Cface
 pub mod CfaceBlocks
 pub mod CfaceBatch
+pub mod CfaceStorage
 pub mod Lines
 pub mod Moving
 pub mod Batch

@@ -342,4 +342,44 @@ unsafe extern "C" {
         table: *mut u32,
         table_len: usize,
     ) -> u8;
+    pub fn stumpchoir_lookup(
+        geometry: *const u32,
+        image: *const u8,
+        image_len: usize,
+        path: *const u8,
+        path_len: usize,
+        hash: u32,
+        location: *mut u32,
+    ) -> u8;
+    pub fn stumpchoir_file_size(
+        geometry: *const u32,
+        image: *const u8,
+        image_len: usize,
+        block: u32,
+        offset: u32,
+        size: *mut u64,
+    ) -> u8;
+    pub fn stumpchoir_file_read(
+        geometry: *const u32,
+        image: *const u8,
+        image_len: usize,
+        block: u32,
+        offset: u32,
+        position: u64,
+        buffer: *mut u8,
+        buffer_len: usize,
+        read: *mut u64,
+    ) -> u8;
+    pub fn stumpchoir_names_new(geometry: *const u32, names: *mut u32) -> u8;
+    pub fn stumpchoir_names_next(
+        geometry: *const u32,
+        image: *const u8,
+        image_len: usize,
+        names: *mut u32,
+        buffer: *mut u8,
+        buffer_len: usize,
+        found: *mut u32,
+        location: *mut u32,
+        len: *mut u64,
+    ) -> u8;
 }
