@@ -2,14 +2,14 @@
 -- with no size its payload is read as headers, with one all behind it is FF.
 use mathlib.Core.Path.{_≡_, refl, sym, ap, ap₂, _∙_, subst}
 use mathlib.Core.Logic.{_⊎_, inl, inr, _≢_}
-use mathlib.Core.Bool.{true, false}
+use mathlib.Core.Bool.{Bool, true, false}
 use mathlib.Core.List.{List}
 use Prim.Native.Nat.{ℕ, zero, suc, _+_, _-_, _%_, _≤_, _<_}
 use native.Mathlib.Nat.{add-zero}
 use native.Mathlib.Omega.{arith}
 use lib.ListN.{length, take, getD}
 use lib.Dec.{eqb}
-use borrow.Author.Tests.{ne-eqb, eq-eqb}
+use borrow.Author.Tests.{eqb-true, eqb-false, ne-eqb, eq-eqb}
 use Rattle.medium.specs.declared.granularity.Granularity.{Granularity}
 use Rattle.medium.specs.declared.geometry.Geometry.{Geometry}
 use Rattle.medium.specs.Granularity.{widthOf, unitsIn, alignOf, sizeAt, header, blockHeader}
@@ -25,7 +25,7 @@ use Rattle.objects.specs.Numbers.{unsetOf}
 use Rattle.objects.specs.Types.{typeOf}
 use Rattle.objects.specs.Header.{headerAt, payloadOf}
 use Rattle.objects.specs.Info.{found, none, infoAt, totalOf}
-use Rattle.objects.specs.Listing.{placed, Visit, broken, Listing, listFrom, listing}
+use Rattle.objects.specs.Listing.{placed, Visit, Stop, end, free, broken, Listing, stopped, listFrom, listing}
 use Rattle.blocks.specs.declared.header.BlockType.{BlockType}
 use Rattle.blocks.specs.declared.header.BlockHeaderKind.the-variants.{Known}
 use Rattle.blocks.specs.declared.header.BlockHeader.{BlockHeader}
@@ -33,7 +33,7 @@ use Rattle.blocks.specs.BlockHeader.{blockHeaderAt}
 use Rattle.blocks.specs.Scan.{listed, scanBlock}
 use Rattle.fresh.specs.Units.{addressOf, span, Clear, before}
 use Rattle.fresh.specs.Fresh.{after, newHeader, marksAfter, Room}
-use Rattle.fresh.specs.Scans.{stopAt, Ended, Text, Second, FreeEnd, CutListed, CutListings, CutScans}
+use Rattle.fresh.specs.Scans.{stopAt, Ended, Text, Second, FreeEnd, CutListed, CutListings, NoneFinished, CutShows, CutScans}
 use Rattle.medium.proofs.Runs.{leb-is}
 use Rattle.medium.proofs.Bytes.{fits-up}
 use Rattle.medium.proofs.Places.{Laid, width-is, align-even, align-least, even-align}
@@ -285,6 +285,72 @@ module _ (g : Geometry) (at : ObjectLocation) (t : ObjectType) (pay img : List �
         narrow = narrow-all;
       }
 
+  -- ---- nothing finished is shown before the mark
+
+  none-shown : (l : Listing) (o : ℕ) (s : Stop) → l ≡ stopped (placed dst o) s → NoneFinished (l .visits)
+  none-shown l o s e = subst (λ (x : Listing). NoneFinished (x .visits)) (sym e) tt
+
+  -- behind the object's span, or its header where it has no size yet
+  shown-behind : (k n x : ℕ) → (at .offset + x + H < g .size → (infoAt g (place g dst (at .offset + x)) (last k) ≡ done none) ⊎ (infoAt g (place g dst (at .offset + x)) (last k) ≡ refused 2))
+      → NoneFinished (listFrom n g (placed dst (at .offset + x)) (last k) .visits)
+  unfolding listFrom
+  shown-behind k zero x f = tt
+  shown-behind k (suc n) x f = go (leb-is (g .size) (at .offset + x + H))
+    where
+      met : at .offset + x + H < g .size → (infoAt g (place g dst (at .offset + x)) (last k) ≡ done none) ⊎ (infoAt g (place g dst (at .offset + x)) (last k) ≡ refused 2)
+          → NoneFinished (listFrom (suc n) g (placed dst (at .offset + x)) (last k) .visits)
+      met b (inl i) = none-shown _ (at .offset + x) free (at-free g dst (last k) (fine k) n (at .offset + x) b i)
+      met b (inr i) = none-shown _ (at .offset + x) (broken 2) (at-broken g dst (last k) (fine k) n (at .offset + x) b 2 i)
+
+      go : (g .size ≤ at .offset + x + H) ⊎ (at .offset + x + H < g .size) → NoneFinished (listFrom (suc n) g (placed dst (at .offset + x)) (last k) .visits)
+      go (inl b) = none-shown _ (at .offset + x) end (at-end g dst (last k) (fine k) n (at .offset + x) b)
+      go (inr b) = met b (f b)
+
+  -- the first byte of the payload is not stored, or is no type
+  first-byte : Text pay → (k : ℕ) → suc k ≤ N → at .offset + H + H < g .size
+      → (infoAt g (place g dst (at .offset + H)) (last (suc k)) ≡ done none) ⊎ (infoAt g (place g dst (at .offset + H)) (last (suc k)) ≡ refused 2)
+  first-byte x k c b = go (leb-is 2 (suc k))
+    where
+      ad : address g dst (at .offset + H) ≡ q + H
+      ad = omega arith
+
+      go : (2 ≤ suc k) ⊎ (suc k < 2) → (infoAt g (place g dst (at .offset + H)) (last (suc k)) ≡ done none) ⊎ (infoAt g (place g dst (at .offset + H)) (last (suc k)) ≡ refused 2)
+      go (inl a) =
+          let byte : getD (last (suc k)) (address g dst (at .offset + H)) 0 ≡ getD pay 0 0 =
+          ap₂ (λ (m : List ℕ) (j : ℕ). getD m j 0) (as-begun (suc k) c) ad ∙ first-stored gr (g .s) t q pay img new (suc k) a (x .some) in
+          inr (broken-info g dst (at .offset + H) (last (suc k)) (fine (suc k)) (v .block) (omega (arith, ld)) (ap typeOf byte ∙ no-type pay x))
+      go (inr a) =
+          let byte : getD (last (suc k)) (address g dst (at .offset + H)) 0 ≡ 255 =
+          ap₂ (λ (m : List ℕ) (j : ℕ). getD m j 0) (as-begun (suc k) c) ad ∙ first-kept gr (g .s) t q pay img new (suc k) (omega arith) ∙ w .erased H (omega arith) in
+          inl (free-info g dst (at .offset + H) (last (suc k)) (fine (suc k)) (v .block) (omega (arith, ld)) byte)
+
+  cut-shows-at : Text pay → (k n : ℕ) → k ≤ N → NoneFinished (listFrom n g (placed dst (at .offset)) (last k) .visits)
+  unfolding listFrom
+  cut-shows-at x k zero c = tt
+  cut-shows-at x zero (suc n) c =
+      none-shown _ (at .offset) free
+      (at-free g dst (last zero) (fine zero) n (at .offset) fits
+      (free-info g dst (at .offset) (last zero) (fine zero) (v .block) (omega (arith, ld, fits)) blank-there))
+    where
+      blank-there : getD (last zero) (address g dst (at .offset)) 0 ≡ 255
+      blank-there = let z : address g dst (at .offset) ≡ q + 0 = omega arith in ap (λ (j : ℕ). getD img j 0) z ∙ w .erased 0 (omega (arith, fits))
+  cut-shows-at x (suc k) (suc n) c =
+      let o : ObjectHeader = headerOf (Allocated t Untrusted) (sizeSeen gr (g .s) q (last (suc k))) at in
+      let i : infoAt g at (last (suc k)) ≡ done (found o) = begun-info k c in
+      subst (λ (l : Listing). NoneFinished (l .visits)) (sym (at-object g dst (last (suc k)) (fine (suc k)) n (at .offset) fits o i))
+      ((λ e. omega arith), go (eqb (sizeSeen gr (g .s) q (last (suc k))) (unsetOf (g .s))) refl)
+    where
+      go : (s : Bool) → eqb (sizeSeen gr (g .s) q (last (suc k))) (unsetOf (g .s)) ≡ s
+          → NoneFinished (listFrom n g (placed dst (at .offset + spanAt g dst (headerOf (Allocated t Untrusted) (sizeSeen gr (g .s) q (last (suc k))) at))) (last (suc k)) .visits)
+      go true e =
+          subst (λ (y : ℕ). NoneFinished (listFrom n g (placed dst (at .offset + y)) (last (suc k)) .visits))
+          (sym (span-unset g dst (g .s) (headerOf (Allocated t Untrusted) (sizeSeen gr (g .s) q (last (suc k))) at) refl (eqb-true _ _ e) (ld .header-even)))
+          (shown-behind (suc k) n H (λ b. first-byte x k c b))
+      go false e =
+          let least : length pay ≤ sizeSeen gr (g .s) q (last (suc k)) = subst (λ (m : List ℕ). length pay ≤ sizeSeen gr (g .s) q m) (sym (as-begun (suc k) c)) (size-least gr (g .s) t q pay img new (suc k)) in
+          let far : sp ≤ spanAt g dst (headerOf (Allocated t Untrusted) (sizeSeen gr (g .s) q (last (suc k))) at) = span-set g dst (length pay) (headerOf (Allocated t Untrusted) (sizeSeen gr (g .s) q (last (suc k))) at) (eqb-false _ _ e) least in
+          shown-behind (suc k) n (spanAt g dst (headerOf (Allocated t Untrusted) (sizeSeen gr (g .s) q (last (suc k))) at)) (λ b. inl (behind-free (suc k) (spanAt g dst (headerOf (Allocated t Untrusted) (sizeSeen gr (g .s) q (last (suc k))) at)) far b))
+
   -- ---- a scan
 
   cut-scanned : (b : BlockHeader) (kind : BlockType) → blockHeaderAt g (at .block) img ≡ done b → b .kind ≡ Known kind → (k : ℕ) → scanBlock g (at .block) (last k) ≡ listed b false (listing g (at .block) (last k))
@@ -299,3 +365,7 @@ cut-listings g at t pay img v w = cut-listed g at t pay img v w
 pub cut-scans : CutScans
 unfolding CutScans
 cut-scans g at t pay img v w b kind h known k = cut-scanned g at t pay img v w b kind h known k
+
+pub cut-shows : CutShows
+unfolding CutShows
+cut-shows g at t pay img v w x k n c = cut-shows-at g at t pay img v w x k n c

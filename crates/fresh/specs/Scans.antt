@@ -15,8 +15,9 @@ use Rattle.objects.specs.declared.types.ObjectType.{ObjectType}
 use Rattle.objects.specs.declared.location.ObjectLocation.{ObjectLocation}
 use Rattle.objects.specs.declared.header.ObjectHeader.{ObjectHeader}
 use Rattle.objects.specs.Numbers.{unsetOf}
+use Rattle.objects.specs.Types.{rankOf}
 use Rattle.objects.specs.Info.{found, infoAt}
-use Rattle.objects.specs.Listing.{Stop, end, free, broken, Listing, listing}
+use Rattle.objects.specs.Listing.{placed, Visit, Stop, end, free, broken, Listing, listFrom, listing}
 use Rattle.blocks.specs.declared.header.BlockType.{BlockType}
 use Rattle.blocks.specs.declared.header.BlockHeaderKind.the-variants.{Known}
 use Rattle.blocks.specs.declared.header.BlockHeader.{BlockHeader}
@@ -67,6 +68,17 @@ pub record CutListed (g : Geometry) (at : ObjectLocation) (t : ObjectType) (pay 
 
 unfoldable pub CutListings : Type 0
 CutListings = (g : Geometry) (at : ObjectLocation) (t : ObjectType) (pay img : List ℕ) → Room g at pay img → FreeEnd g at img → CutListed g at t pay img
+
+-- ---- what such a listing shows: with a payload that begins like text, nothing finished at the object's place or behind it before its finish mark
+
+abbrev pub NoneFinished : List Visit → Type 0
+NoneFinished [] = Unit {0}
+NoneFinished (v ∷ vs) = (rankOf (v .object .state) ≢ 2) × NoneFinished vs
+
+unfoldable pub CutShows : Type 0
+CutShows =
+    (g : Geometry) (at : ObjectLocation) (t : ObjectType) (pay img : List ℕ) → Room g at pay img → FreeEnd g at img → Text pay → (k n : ℕ) → k ≤ marksAfter g pay
+    → NoneFinished (listFrom n g (placed (at .block) (at .offset)) (after g at t pay img k) .visits)
 
 -- ---- the whole object is one visit more, and the listing ends behind it: at a free place where a header fits there, or at the block's end
 

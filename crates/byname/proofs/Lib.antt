@@ -1,0 +1,10 @@
+pub mod Agreed
+pub mod Payloads
+pub mod Search
+pub mod Counted
+pub mod Kept
+pub mod Left
+pub mod Cut
+pub mod Times
+pub mod Contents
+pub mod Instance
