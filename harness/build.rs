@@ -5,8 +5,8 @@
 
 use std::{env, path::PathBuf};
 
-const LAYERS: [&str; 5] = ["MEDIUM", "OBJECTS", "BLOCKS", "COLLECTOR", "BATCH"];
-const ARCHIVES: [&str; 3] = ["cface", "cface_blocks", "cface_batch"];
+const LAYERS: [&str; 6] = ["MEDIUM", "OBJECTS", "BLOCKS", "COLLECTOR", "BATCH", "STORAGE"];
+const ARCHIVES: [&str; 4] = ["cface", "cface_blocks", "cface_batch", "cface_storage"];
 
 fn main() {
     println!("cargo:rerun-if-env-changed=STUMPCHOIR_LIB");

@@ -1,9 +1,10 @@
 //! Puts a case to the model, the text and the library, and compares what comes back.
 
 use crate::{
+    answer::{IO, NOT_FOUND},
     case::Case,
     model,
-    op::Layer,
+    op::{Layer, Op},
     oracle,
     outcome::{difference, Outcome},
     rattle,
@@ -43,7 +44,7 @@ pub fn judge(case: &Case) -> Judged {
 
 /// Plants a fault in the library's outcome, to show that the harness finds, shrinks and reports one: a stored byte of
 /// a write that is longer than five bytes, or of a block's or the collector's function, comes out wrong; of a batch, the
-/// count where a record behind the second is refused.
+/// count where a record behind the second is refused; a lookup of more than 16 bytes does not find what it cannot read.
 pub fn plant(case: &Case, judged: &mut Judged) {
     let mut wrong = judged.model.clone();
     if case.op.signature().layer == Layer::Batch {
@@ -52,6 +53,9 @@ pub fn plant(case: &Case, judged: &mut Judged) {
         }
         judged.library = Some(wrong);
         return;
+    }
+    if case.op == Op::Lookup && wrong.answer == IO && case.bytes.len() > 16 {
+        wrong.answer = NOT_FOUND;
     }
     let upper = matches!(case.op.signature().layer, Layer::Blocks | Layer::Collector);
     if case.op.stores() && wrong.done() && (upper || case.bytes.len() > 5) {

@@ -2,7 +2,7 @@
 
 use crate::{answer::BAD_GEOMETRY, answer::BAD_ROOM, case::Case, model::early, op::Op, outcome::Outcome};
 
-pub use text::SIZES;
+pub use text::{finder, SIZES};
 
 pub const SKIPPED: &str = "the repository's text was not at hand when this was built (see NORFS_SRC)";
 
@@ -24,6 +24,9 @@ pub fn run(case: &Case) -> Result<Outcome, &'static str> {
     }
     if case.op == Op::Check {
         return Err("check has nothing of the text in it");
+    }
+    if matches!(case.op, Op::FileRead | Op::NamesNew | Op::NamesNext) {
+        return Err("reading and names, which are in files of norfs that are not in the text");
     }
     if case.op == Op::RecordAddUsedBytes && case.array[2] as u64 + case.args[0] as u64 + 3 > u32::MAX as u64 {
         return Err("used bytes near 2^32, which the text counts in 64 bits");

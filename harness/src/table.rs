@@ -21,18 +21,22 @@ fn done(records: u64) -> Done {
     (row, DONE[row].1)
 }
 
-/// One row a name, one column a number.
-fn table<'a>(head: &str, rows: impl Iterator<Item = (String, &'a [u64; 10])>) -> String {
+/// How often each number was answered; the numbers have places up to 15.
+type Counts = [u64; 16];
+
+/// One row a name, one column a number that has a name.
+fn table<'a>(head: &str, rows: impl Iterator<Item = (String, &'a Counts)>) -> String {
     let mut text = format!("| {head} |");
-    for (number, name) in answer::NAMES.iter().enumerate() {
+    for (number, name) in answer::NAMES {
         text += &format!(" {number} {name} |");
     }
     text += "\n|---|";
-    text += &"---:|".repeat(10);
+    text += &"---:|".repeat(answer::NAMES.len());
     for (name, counts) in rows {
         text += &format!("\n| {name} |");
-        for count in counts {
-            text += &if *count == 0 { " |".to_string() } else { format!(" {count} |") };
+        for (number, _) in answer::NAMES {
+            let count = counts[number as usize];
+            text += &if count == 0 { " |".to_string() } else { format!(" {count} |") };
         }
     }
     text + "\n"
@@ -40,9 +44,9 @@ fn table<'a>(head: &str, rows: impl Iterator<Item = (String, &'a [u64; 10])>) ->
 
 #[derive(Default)]
 pub struct Tally {
-    answers: BTreeMap<Op, [u64; 10]>,
+    answers: BTreeMap<Op, Counts>,
     /// of batches, by how many records were done
-    batches: BTreeMap<Done, [u64; 10]>,
+    batches: BTreeMap<Done, Counts>,
     /// compared with text, model and library
     three: u64,
     /// compared text with model, the library not linked
@@ -55,7 +59,7 @@ pub struct Tally {
 impl Tally {
     pub fn count(&mut self, case: &Case, judged: &Judged) {
         self.cases += 1;
-        let answer = judged.model.answer as usize % 10;
+        let answer = judged.model.answer as usize % 16;
         self.answers.entry(case.op).or_default()[answer] += 1;
         if case.op.signature().layer == Layer::Batch {
             self.batches.entry(done(judged.model.values[0])).or_default()[answer] += 1;
@@ -67,12 +71,12 @@ impl Tally {
         }
     }
 
-    pub fn of(&self, op: Op) -> [u64; 10] {
+    pub fn of(&self, op: Op) -> Counts {
         self.answers.get(&op).copied().unwrap_or_default()
     }
 
     /// Batches that ended with a number after so many records, or one of the few counts that are put together with it.
-    pub fn of_batches(&self, records: u64) -> [u64; 10] {
+    pub fn of_batches(&self, records: u64) -> Counts {
         self.batches.get(&done(records)).copied().unwrap_or_default()
     }
 

@@ -4,9 +4,14 @@ use std::process::{Command, Output};
 
 use harness::{
     case::Case,
-    cases::{units, Source},
+    cases::{
+        stores::{set_size, Store},
+        units, Source,
+    },
     compare::{judge, plant, Scope},
-    op::{Op, LAYERS},
+    geometry::Geometry,
+    model::blocks::{DATA, METADATA},
+    op::{Layer, Op, LAYERS},
     oracle,
     shrink::shrink,
     table::Tally,
@@ -30,6 +35,34 @@ fn random_cases_agree() {
         assert!(tally.of(Op::WriteAll)[number] > 5, "batches hardly ever meet {number}");
         assert!(tally.of_batches(2)[number] > 5, "batches hardly ever meet {number} behind two records");
     }
+    let by_name = [
+        (Op::Lookup, &[0, 2, 3, 6, 7, 13][..]),
+        (Op::FileSize, &[0, 2, 3, 6, 7, 9]),
+        (Op::FileRead, &[0, 2, 3, 6, 7, 9]),
+        (Op::NamesNext, &[0, 2, 3, 6, 7]),
+    ];
+    for (op, numbers) in by_name {
+        let counts = tally.of(op);
+        for number in 0..counts.len() {
+            assert_eq!(counts[number] > 5, numbers.contains(&number), "{} and {number}", op.name());
+        }
+    }
+}
+
+#[test]
+fn names_come_and_end() {
+    let mut met = [0; 2];
+    let mut long = 0;
+    for case in Source::new(Layer::Storage, 11).take(20_000).filter(|case| case.op == Op::NamesNext) {
+        let outcome = judge(&case).model;
+        let whole = case.geometry.good() && case.image.len() == case.geometry.room();
+        match outcome.answer {
+            0 => met[outcome.values[0] as usize] += 1,
+            7 if whole => long += 1,
+            _ => {}
+        }
+    }
+    assert!(met[0] > 50 && met[1] > 50 && long > 50, "{met:?} {long}");
 }
 
 /// A case with much that does not matter for the fault.
@@ -69,6 +102,26 @@ fn a_planted_fault_of_a_batch_is_made_small() {
     assert_eq!((small.array.len(), small.bytes.len(), small.fuse), (12, 0, None), "{}", small.line());
 }
 
+#[test]
+fn a_planted_fault_of_a_lookup_is_made_small() {
+    let g = Geometry { granularity: 4, s: 2, c: 1, size: 128, count: 4 };
+    let mut store = Store::of(g, &[METADATA, DATA, METADATA, DATA]);
+    let name = store.file([0, 1], 9, &[0x61; 40], &[]).unwrap().name_at;
+    store.file([2, 3], 7, b"another", &[b"12"]).unwrap();
+    set_size(&mut store.flash, name, 120);
+    let path = [[0x61; 40], [0xFF; 40], [0xFF; 40]].concat();
+    let case = Case { args: vec![9], bytes: path, image: store.flash.image, ..Case::of(Op::Lookup, g) };
+    let bad = |case: &Case| {
+        let mut judged = judge(case);
+        plant(case, &mut judged);
+        judged.difference(case).is_some()
+    };
+    assert!(bad(&case), "{}", judge(&case).show(&case));
+    let small = shrink(&case, &bad);
+    assert!(bad(&small));
+    assert_eq!((small.geometry.size, small.geometry.count, small.bytes.len()), (64, 1, 17), "{}", small.line());
+}
+
 /// Runs the program, by the runner that HARNESS_RUNNER names where this machine is of another kind.
 fn harness(words: &[&str]) -> Output {
     let program = env!("CARGO_BIN_EXE_harness");
@@ -101,6 +154,8 @@ fn a_planted_fault_is_reported() {
     }
     let case = reported("batch");
     assert_eq!((case.op, case.array.len()), (Op::WriteAll, 12), "two records done, and the one refused");
+    let case = reported("storage");
+    assert_eq!((case.op, case.bytes.len()), (Op::Lookup, 17), "the shortest path of two turns");
 }
 
 #[test]

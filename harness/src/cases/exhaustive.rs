@@ -5,6 +5,7 @@ mod blocks;
 mod collector;
 mod medium;
 mod objects;
+mod storage;
 
 use crate::{case::Case, geometry::Geometry, op::Layer};
 
@@ -19,6 +20,7 @@ pub fn all(layer: Layer, visit: Visit) -> bool {
         Layer::Blocks => blocks::all(visit),
         Layer::Collector => collector::all(visit),
         Layer::Batch => batch::all(visit),
+        Layer::Storage => storage::all(visit),
     }
 }
 

@@ -9,6 +9,8 @@ mod medium;
 mod numbers;
 mod objects;
 mod spoil;
+pub mod storage;
+pub mod stores;
 mod values;
 
 use std::collections::VecDeque;
@@ -38,6 +40,7 @@ impl Source {
             Layer::Blocks => blocks::make(r),
             Layer::Collector => collector::make(r),
             Layer::Batch => batch::make(r),
+            Layer::Storage => storage::make(r),
         }
     }
 

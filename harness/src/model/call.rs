@@ -78,6 +78,7 @@ fn call(case: &Case, after: &mut Outcome) -> Answer<()> {
     let answer = match case.op.signature().layer {
         Layer::Medium => medium(case, &mut flash, &mut shown),
         Layer::Blocks => block(case, &mut flash, &mut shown),
+        Layer::Storage => storage(case, &flash, &mut shown),
         _ => match case.op.signature().array {
             Shape::Writer => writer(case, &mut flash, &mut shown),
             Shape::Reader => reader(case, &mut flash, &mut shown),
@@ -263,5 +264,34 @@ fn record(case: &Case, shown: &mut Shown) -> Answer<()> {
         _ => unreachable!(),
     }
     shown.array = record.numbers().to_vec();
+    Ok(())
+}
+
+fn storage(case: &Case, flash: &Flash, shown: &mut Shown) -> Answer<()> {
+    let arg = |i: usize| case.args[i];
+    match case.op {
+        Op::Lookup => shown.numbers(&flash.lookup(&case.bytes, arg(0))?),
+        Op::FileSize => shown.value(flash.file_size(arg(0), arg(1))?),
+        Op::FileRead => {
+            let read = flash.file_read(arg(0), arg(1), case.position(), case.bytes.len())?;
+            shown.bytes[..read.len()].copy_from_slice(&read);
+            shown.value(read.len() as u64);
+        }
+        Op::NamesNew => {
+            let first = Listing::new(case.geometry, 0);
+            shown.numbers(&[first.block, first.offset]);
+        }
+        Op::NamesNext => {
+            let place = Listing { block: case.array[0], offset: case.array[1] };
+            let next = flash.names_next(place, case.bytes.len())?;
+            shown.values[0] = next.is_some() as u64;
+            if let Some(name) = next {
+                shown.bytes[..name.bytes.len()].copy_from_slice(&name.bytes);
+                shown.values = vec![1, name.at[0] as u64, name.at[1] as u64, name.bytes.len() as u64];
+                shown.array = vec![name.behind.block, name.behind.offset];
+            }
+        }
+        _ => unreachable!(),
+    }
     Ok(())
 }

@@ -12,6 +12,7 @@ pub mod layout;
 pub mod listing;
 pub mod metadata;
 pub mod reader;
+pub mod storage;
 pub mod writer;
 
 pub use call::{run, Ran};

@@ -13,6 +13,8 @@ pub mod interface;
 mod medium;
 #[cfg(feature = "objects")]
 mod objects;
+#[cfg(feature = "storage")]
+mod storage;
 
 use crate::{
     case::Case,
@@ -27,6 +29,7 @@ pub fn present(layer: Layer) -> bool {
         Layer::Blocks => cfg!(feature = "blocks"),
         Layer::Collector => cfg!(feature = "collector"),
         Layer::Batch => cfg!(feature = "batch"),
+        Layer::Storage => cfg!(feature = "storage"),
     }
 }
 
@@ -57,6 +60,8 @@ fn call(case: &Case, lent: &mut Lent) -> Option<u8> {
         Layer::Collector => Some(collector::call(case, lent)),
         #[cfg(feature = "batch")]
         Layer::Batch => Some(batch::call(case, lent)),
+        #[cfg(feature = "storage")]
+        Layer::Storage => Some(storage::call(case, lent)),
         #[allow(unreachable_patterns)]
         _ => None,
     }

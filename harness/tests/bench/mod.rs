@@ -3,6 +3,7 @@
 
 use harness::{case::Case, geometry::Geometry, model, op::Op, oracle, outcome::Outcome, rattle};
 
+pub mod named;
 pub mod store;
 
 #[derive(Clone)]

@@ -10,21 +10,24 @@ pub const BAD_GEOMETRY: u8 = 6;
 pub const BAD_ROOM: u8 = 7;
 pub const POWER_LOST: u8 = 8;
 pub const RUST_PANIC: u8 = 9;
+pub const NOT_FOUND: u8 = 13;
 
-pub const NAMES: [&str; 10] = [
-    "done",
-    "NotFormatted",
-    "FsCorrupted",
-    "Io",
-    "InvalidOperation",
-    "InsufficientSpace",
-    "BadGeometry",
-    "BadRoom",
-    "PowerLost",
-    "RustPanic",
+pub const NAMES: [(u8, &str); 11] = [
+    (DONE, "done"),
+    (NOT_FORMATTED, "NotFormatted"),
+    (FS_CORRUPTED, "FsCorrupted"),
+    (IO, "Io"),
+    (INVALID_OPERATION, "InvalidOperation"),
+    (INSUFFICIENT_SPACE, "InsufficientSpace"),
+    (BAD_GEOMETRY, "BadGeometry"),
+    (BAD_ROOM, "BadRoom"),
+    (POWER_LOST, "PowerLost"),
+    (RUST_PANIC, "RustPanic"),
+    (NOT_FOUND, "NotFound"),
 ];
 
 /// The number with its name.
 pub fn show(number: u8) -> String {
-    format!("{number} {}", NAMES.get(number as usize).unwrap_or(&"(no such number)"))
+    let name = NAMES.iter().find(|(named, _)| *named == number).map_or("(no such number)", |(_, name)| name);
+    format!("{number} {name}")
 }

@@ -33,6 +33,11 @@ impl Case {
         self.op.signature().place != Place::Nothing
     }
 
+    /// Where `file_read` begins: a u64, handed in as its low and its high half.
+    pub fn position(&self) -> u64 {
+        self.args[2] as u64 | (self.args[3] as u64) << 32
+    }
+
     pub fn line(&self) -> String {
         let g = self.geometry;
         format!(

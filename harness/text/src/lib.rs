@@ -9,7 +9,7 @@
 extern crate self as heapless08;
 pub use standins::{FixedVec as Vec, StorageError};
 
-// The text's modules: medium, ll::objects, ll::blocks, gc (build.rs writes this file).
+// The text's modules: medium, ll::objects, ll::blocks, gc, and what is cut out of lib.rs (build.rs writes this file).
 include!(concat!(env!("OUT_DIR"), "/norfs.rs"));
 
 pub mod answer;
@@ -29,6 +29,10 @@ mod call_blocks;
 mod call_collector;
 #[cfg(norfs_text)]
 mod call_objects;
+#[cfg(norfs_text)]
+mod call_storage;
+#[cfg(norfs_text)]
+mod finder;
 #[cfg(norfs_text)]
 mod flash;
 #[cfg(norfs_text)]
@@ -51,6 +55,17 @@ pub fn run(case: &case::Case) -> Option<outcome::Outcome> {
 
 #[cfg(not(norfs_text))]
 pub fn run(_: &case::Case) -> Option<outcome::Outcome> {
+    None
+}
+
+/// The text's `lookup` of one path in one store, to be timed: a place, or the number of the refusal.
+pub type Find = Box<dyn FnMut() -> Result<[u32; 2], u8>>;
+
+/// None where there is no instance for the geometry, and without the text.
+#[cfg(norfs_text)]
+pub use finder::finder;
+#[cfg(not(norfs_text))]
+pub fn finder(_: geometry::Geometry, _: &[u8], _: &[u8], _: u32) -> Option<Find> {
     None
 }
 

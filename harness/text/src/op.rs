@@ -7,13 +7,15 @@ pub enum Layer {
     Blocks,
     Collector,
     Batch,
+    Storage,
 }
 
-pub const LAYERS: [Layer; 5] = [Layer::Medium, Layer::Objects, Layer::Blocks, Layer::Collector, Layer::Batch];
+pub const LAYERS: [Layer; 6] =
+    [Layer::Medium, Layer::Objects, Layer::Blocks, Layer::Collector, Layer::Batch, Layer::Storage];
 
 impl Layer {
     pub fn name(self) -> &'static str {
-        ["medium", "objects", "blocks", "collector", "batch"][self as usize]
+        ["medium", "objects", "blocks", "collector", "batch", "storage"][self as usize]
     }
 }
 
@@ -180,6 +182,12 @@ ops! {
     EraseInvalidFinishedBlocks "erase_invalid_finished_blocks" Collector Store [] Table None &[];
     EraseFullFinishedBlocks "erase_full_finished_blocks" Collector Store [] Table None &[];
     Run "run" Collector Store [] Table None &[];
+
+    Lookup "lookup" Storage Image ["hash"] None Source &[W; 2];
+    FileSize "file_size" Storage Image ["block" "offset"] None None &[Q];
+    FileRead "file_read" Storage Image ["block" "offset" "position" "position_high"] None Buffer &[Q];
+    NamesNew "names_new" Storage Nothing [] None None &[W; 2];
+    NamesNext "names_next" Storage Image [] Iterator Buffer &[W, W, W, Q];
 }
 
 impl Op {

@@ -1,8 +1,10 @@
 //! One case on one instance of the text.
 
 use crate::{
-    answer::{DONE, FS_CORRUPTED, INSUFFICIENT_SPACE, INVALID_OPERATION, IO, NOT_FORMATTED, POWER_LOST, RUST_PANIC},
-    call_batch, call_blocks, call_collector, call_objects,
+    answer::{
+        DONE, FS_CORRUPTED, INSUFFICIENT_SPACE, INVALID_OPERATION, IO, NOT_FORMATTED, NOT_FOUND, POWER_LOST, RUST_PANIC,
+    },
+    call_batch, call_blocks, call_collector, call_objects, call_storage,
     case::Case,
     flash::{set_widths, Chip},
     op::{Layer, Op},
@@ -54,6 +56,7 @@ pub fn run_on<M: Chip>(case: &Case) -> Outcome {
         Layer::Blocks => call_blocks::call(case, &mut medium, &mut shown).map_err(number),
         Layer::Collector => call_collector::call(case, &mut medium, &mut shown).map_err(number),
         Layer::Batch => call_batch::call(case, &mut medium, &mut shown),
+        Layer::Storage => call_storage::call(case, &mut medium, &mut shown).map_err(number),
     });
     let (image, fuse, lost) = medium.end();
     after.image = image;
@@ -78,6 +81,7 @@ pub fn run_on<M: Chip>(case: &Case) -> Outcome {
 /// The number of the text's own refusal.
 pub fn number(error: StorageError) -> u8 {
     match error {
+        StorageError::NotFound => NOT_FOUND,
         StorageError::NotFormatted => NOT_FORMATTED,
         StorageError::FsCorrupted => FS_CORRUPTED,
         StorageError::Io => IO,

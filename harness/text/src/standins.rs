@@ -57,6 +57,7 @@ impl<T, const N: usize> core::ops::Deref for FixedVec<T, N> {
 /// The names of the text's lib.rs that this layer gives.
 #[derive(Debug, Clone, Copy, PartialEq, Eq)]
 pub enum StorageError {
+    NotFound,
     NotFormatted,
     FsCorrupted,
     Io,

@@ -6,7 +6,7 @@ use harness::{
 };
 
 pub const USAGE: &str = "\
-harness compare  [--layer medium|objects|blocks|collector|batch|all] [--cases N] [--seed S] [--table FILE] [--random-only]
+harness compare  [--layer medium|objects|blocks|collector|batch|storage|all] [--cases N] [--seed S] [--table FILE] [--random-only]
                  small cases counted through, then N random ones a layer; --random-only leaves the small ones out
                  --plant: with a fault planted in the library's outcomes, to see it found
 harness moves    [--cases N] [--seed S]        N moves, each at every fuse, with the promise about cuts checked
@@ -14,7 +14,7 @@ harness inspector [--cases N] [--seed S] PROGRAM ..   the program's lines on N i
 harness replay   'LINE' ..                     one case on all three sides
 harness record   [--layer ..] [--cases N] [--seed S] --out FILE     the text's answers as a list
 harness recorded FILE ..                       a recorded list on library and model
-harness speed    [--cases N]                   a batch against its records one by one, the median of N rounds";
+harness speed    [--cases N]                   a batch against its records, lookup against the Rust's; the median of N rounds";
 
 const SEED: u64 = 20_260_415;
 
