@@ -38,22 +38,27 @@ def levels(name):
     return [[c for c in level if level[c] == n] for n in range(level[name] + 1)]
 
 
-def check(crates, place):
-    """`rt check` of some crates. What it does is told once it takes longer than a look at unchanged files."""
-    run = subprocess.Popen(['rt', 'check', *crates], cwd=ROOT, stdout=subprocess.PIPE, stderr=subprocess.STDOUT, text=True)
-    names, began, told = ' and '.join(crates), time.time(), False
+def work(command, what, doing, place):
+    """Runs a command of the repository. What it does is told once it takes longer than a look at unchanged files. DOING is what one says
+    while it is done, and then."""
+    run = subprocess.Popen(command, cwd=ROOT, stdout=subprocess.PIPE, stderr=subprocess.STDOUT, text=True)
+    began, told = time.time(), False
     while True:
         try:
             said, _ = run.communicate(timeout=60 if told else 3)
             break
         except subprocess.TimeoutExpired:
-            took = f', {time.time() - began:.0f} s so far' if told else f' ({place}; up to three minutes on an idle machine, the first time only)'
-            note(f'proving {names}{took} ..')
+            took = f', {time.time() - began:.0f} s so far' if told else f' ({place})'
+            note(f'{doing[0]} {what}{took} ..')
             told = True
     if run.returncode:
-        raise Failed(f'{names}: not proved. The last lines of `rt check {" ".join(crates)}`:\n' + '\n'.join(said.splitlines()[-5:]))
+        raise Failed(f'{what}: not {doing[1]}. The last lines of `{" ".join(command)}`:\n' + '\n'.join(said.splitlines()[-5:]))
     if told:
-        note(f'proved {names} in {time.time() - began:.0f} s')
+        note(f'{doing[1]} {what} in {time.time() - began:.0f} s')
+
+
+def check(crates, place):
+    work(['rt', 'check', *crates], ' and '.join(crates), ('proving', 'proved'), f'{place}; up to three minutes on an idle machine, the first time only')
 
 
 def proved_once(name):
