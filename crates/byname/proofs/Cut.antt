@@ -23,8 +23,8 @@ use Rattle.storage.specs.Lookup.{lookup}
 use Rattle.powercut.specs.Demand.{Whole, payloadIn, copyOf, Movable, unitsTo, Framed, Survives, Demand}
 use Rattle.powercut.specs.Listed.{Listable}
 use Rattle.powercut.specs.Again.{leftBy}
-use Rattle.powercut.specs.Scans.{stopAfter, Ended, Text}
-use Rattle.fresh.specs.Scans.{NoneFinished, CutShows}
+use Rattle.powercut.specs.Scans.{stopAfter, Ended}
+use Rattle.fresh.specs.Scans.{Untyped, NoneFinished, CutShows}
 use Rattle.byname.specs.Street.{Street, Looked, FoundAtEveryCut}
 use Rattle.medium.proofs.Runs.{leb-is}
 use Rattle.shown.proofs.Walk.{place, Walked}
@@ -69,7 +69,7 @@ module _ (g : Geometry) (path : List ℕ) (hash : ℕ) (h : ObjectHeader) (to : 
   frame k = survives k .framed
 
   -- before the mark nothing finished stands at the copy's place
-  pub none-yet : Text pay → (k n : ℕ) → k ≤ unitsTo g h → NoneFinished (listFrom n g (placed dst (to .offset)) (left k) .visits)
+  pub none-yet : Untyped pay → (k n : ℕ) → k ≤ unitsTo g h → NoneFinished (listFrom n g (placed dst (to .offset)) (left k) .visits)
   unfolding CutShows
   none-yet x k n c =
       let e = n-is g h to room t img v w in
@@ -100,7 +100,7 @@ module _ (g : Geometry) (path : List ℕ) (hash : ℕ) (h : ObjectHeader) (to : 
         after-marks = λ k c. found-moved g path hash h to room t img v w st (left k) (frame k) (survives k .after-marks c .0) (survives k .after-marks c .1);
       }
     where
-      listed-before : Text pay → (k : ℕ) → k ≤ unitsTo g h → dst < src → Ended (stopAfter g h to img k) → (b : ℕ) → b < src → (c : Bool) → eqb b dst ≡ c → Quiet g path hash (left k) b
+      listed-before : Untyped pay → (k : ℕ) → k ≤ unitsTo g h → dst < src → Ended (stopAfter g h to img k) → (b : ℕ) → b < src → (c : Bool) → eqb b dst ≡ c → Quiet g path hash (left k) b
       listed-before x k c lt s b d true e =
           let ne : src ≢ dst = λ e. omega arith in
           subst (Quiet g path hash (left k)) (sym (eqb-true b dst e))

@@ -32,7 +32,8 @@ use Rattle.storage.specs.Lookup.{sameFrom, isName, isNamed}
 use Rattle.storage.specs.File.{placesFrom}
 use Rattle.powercut.specs.Demand.{payloadIn, Movable}
 use Rattle.powercut.specs.Listed.{Listable}
-use Rattle.powercut.specs.Scans.{Ended, Text}
+use Rattle.powercut.specs.Scans.{Ended}
+use Rattle.fresh.specs.Scans.{Untyped}
 use Rattle.byname.specs.Street.{NameOutside, Others, Street, Looked, FoundAtEveryCut, Contents, SameFile, ReadsTheSame, Times, TwiceBetween}
 use Rattle.medium.proofs.Computed.{bytes-by, blank-by}
 use Rattle.byname.proofs.Cut.{found-at-every-cut}
@@ -133,10 +134,10 @@ contents : Contents chip street (at 0 8) store
 unfolding geometryOk admit readable readAt payloadOf payloadSizeOf numberAt locationAt readMetadata listable nextLocation placesFrom
 contents = record { long = lit≤ tt; whole = refl; metadata = read; opens = refl; outside = ((λ q. omega arith, λ q. omega arith), tt) }
 
--- its hash begins like text
-text : Text (payloadIn chip street store)
+-- its hash does not begin with a type
+untyped : Untyped (payloadIn chip street store)
 unfolding payloadOf
-text = record { some = lit< tt; no-metadata = λ e. omega arith; no-data = λ e. omega arith; no-name = λ e. omega arith; no-blank = λ e. omega arith }
+untyped = record { some = lit< tt; no-metadata = λ e. omega arith; no-data = λ e. omega arith; no-name = λ e. omega arith }
 
 pub looked-up : Looked chip (0x41 ∷ []) 7 street (at 0 8) store
 unfolding FoundAtEveryCut

@@ -22,8 +22,7 @@ use Rattle.storage.specs.Laws.{Entry, entries}
 use Rattle.powercut.specs.Demand.{Whole, addressOf, payloadIn, copyOf, Movable, unitsTo, Framed, Survives}
 use Rattle.powercut.specs.Listed.{Listable}
 use Rattle.powercut.specs.Again.{leftBy, goneOf}
-use Rattle.powercut.specs.Scans.{Text}
-use Rattle.fresh.specs.Scans.{NoneFinished}
+use Rattle.fresh.specs.Scans.{Untyped, NoneFinished}
 use Rattle.byname.specs.Street.{Others, Street, timesListed, Times, TwiceBetween}
 use Rattle.medium.proofs.Bytes.{Off}
 use Rattle.medium.proofs.Frame.{other-block}
@@ -199,7 +198,7 @@ module _ (g : Geometry) (path : List ℕ) (hash : ℕ) (h : ObjectHeader) (to : 
         after-marks = λ k n xs c e. once-after k n xs c e (eqb src dst) refl;
       }
     where
-      once-before : Text pay → (k n : ℕ) (xs : List Entry) → k ≤ unitsTo g h → entries g n (left k) ≡ done xs → (c : Bool) → eqb src dst ≡ c → timesListed path hash xs ≡ 1
+      once-before : Untyped pay → (k n : ℕ) (xs : List Entry) → k ≤ unitsTo g h → entries g n (left k) ≡ done xs → (c : Bool) → eqb src dst ≡ c → timesListed path hash xs ≡ 1
       once-before x k n xs c e true z =
           let eq : src ≡ dst = eqb-true src dst z in
           let wh : Whole g h t pay (left k) = cut k .before-mark c .0 in

@@ -29,7 +29,8 @@ use Rattle.storage.specs.Laws.{All, Entry, entries}
 use Rattle.powercut.specs.Demand.{payloadIn, Movable, unitsTo}
 use Rattle.powercut.specs.Listed.{Listable}
 use Rattle.powercut.specs.Again.{leftBy}
-use Rattle.powercut.specs.Scans.{stopAfter, Ended, Text}
+use Rattle.powercut.specs.Scans.{stopAfter, Ended}
+use Rattle.fresh.specs.Scans.{Untyped}
 
 -- ---- what is given besides the demand's conditions
 
@@ -73,9 +74,9 @@ pub record Looked (g : Geometry) (path : List ℕ) (hash : ℕ) (h : ObjectHeade
   -- as long as the copy has no finish mark the original, where its block comes first or is the same
   pub before-mark : (k : ℕ) → k ≤ unitsTo g h → h .location .block ≤ to .block → lookAfter g path hash h to img k ≡ done (h .location)
   -- where the copy's block comes first: the original too if that block can be listed, and else its refusal
-  pub before-mark-listed : Text (payloadIn g h img) → (k : ℕ) → k ≤ unitsTo g h → to .block < h .location .block → Ended (stopAfter g h to img k)
+  pub before-mark-listed : Untyped (payloadIn g h img) → (k : ℕ) → k ≤ unitsTo g h → to .block < h .location .block → Ended (stopAfter g h to img k)
       → lookAfter g path hash h to img k ≡ done (h .location)
-  pub before-mark-broken : Text (payloadIn g h img) → (k n : ℕ) → k ≤ unitsTo g h → to .block < h .location .block → stopAfter g h to img k ≡ broken n
+  pub before-mark-broken : Untyped (payloadIn g h img) → (k n : ℕ) → k ≤ unitsTo g h → to .block < h .location .block → stopAfter g h to img k ≡ broken n
       → lookAfter g path hash h to img k ≡ refused n
   -- between the marks the first of the two, and then the copy
   pub between-marks : lookAfter g path hash h to img (unitsTo g h + 1) ≡ done (pick (leb (h .location .block) (to .block)) (h .location) to)
@@ -112,7 +113,7 @@ timesListed path hash [] = 0
 timesListed path hash (x ∷ xs) = pick (eqb (x .hash) hash && equal (x .name) path) 1 0 + timesListed path hash xs
 
 pub record Times (g : Geometry) (path : List ℕ) (hash : ℕ) (h : ObjectHeader) (to : ObjectLocation) (img : List ℕ) : Type 0 where
-  pub before-mark : Text (payloadIn g h img) → (k n : ℕ) (xs : List Entry) → k ≤ unitsTo g h → entries g n (leftBy g h to img k) ≡ done xs → timesListed path hash xs ≡ 1
+  pub before-mark : Untyped (payloadIn g h img) → (k n : ℕ) (xs : List Entry) → k ≤ unitsTo g h → entries g n (leftBy g h to img k) ≡ done xs → timesListed path hash xs ≡ 1
   pub between-marks : (n : ℕ) (xs : List Entry) → entries g n (leftBy g h to img (unitsTo g h + 1)) ≡ done xs → timesListed path hash xs ≡ 2
   pub after-marks : (k n : ℕ) (xs : List Entry) → unitsTo g h + 2 ≤ k → entries g n (leftBy g h to img k) ≡ done xs → timesListed path hash xs ≡ 1
 

@@ -33,7 +33,7 @@ use Rattle.blocks.specs.BlockHeader.{blockHeaderAt}
 use Rattle.blocks.specs.Scan.{listed, scanBlock}
 use Rattle.fresh.specs.Units.{addressOf, span, Clear, before}
 use Rattle.fresh.specs.Fresh.{after, newHeader, marksAfter, Room}
-use Rattle.fresh.specs.Scans.{stopAt, Ended, Text, Second, FreeEnd, CutListed, CutListings, NoneFinished, CutShows, CutScans}
+use Rattle.fresh.specs.Scans.{stopAt, Ended, Text, Second, FreeEnd, CutListed, CutListings, Untyped, NoneFinished, CutShows, CutScans}
 use Rattle.medium.proofs.Runs.{leb-is}
 use Rattle.medium.proofs.Bytes.{fits-up}
 use Rattle.medium.proofs.Places.{Laid, width-is, align-even, align-least, even-align}
@@ -307,7 +307,7 @@ module _ (g : Geometry) (at : ObjectLocation) (t : ObjectType) (pay img : List �
       go (inr b) = met b (f b)
 
   -- the first byte of the payload is not stored, or is no type
-  first-byte : Text pay → (k : ℕ) → suc k ≤ N → at .offset + H + H < g .size
+  first-byte : Untyped pay → (k : ℕ) → suc k ≤ N → at .offset + H + H < g .size
       → (infoAt g (place g dst (at .offset + H)) (last (suc k)) ≡ done none) ⊎ (infoAt g (place g dst (at .offset + H)) (last (suc k)) ≡ refused 2)
   first-byte x k c b = go (leb-is 2 (suc k))
     where
@@ -315,16 +315,21 @@ module _ (g : Geometry) (at : ObjectLocation) (t : ObjectType) (pay img : List �
       ad = omega arith
 
       go : (2 ≤ suc k) ⊎ (suc k < 2) → (infoAt g (place g dst (at .offset + H)) (last (suc k)) ≡ done none) ⊎ (infoAt g (place g dst (at .offset + H)) (last (suc k)) ≡ refused 2)
-      go (inl a) =
-          let byte : getD (last (suc k)) (address g dst (at .offset + H)) 0 ≡ getD pay 0 0 =
-          ap₂ (λ (m : List ℕ) (j : ℕ). getD m j 0) (as-begun (suc k) c) ad ∙ first-stored gr (g .s) t q pay img new (suc k) a (x .some) in
-          inr (broken-info g dst (at .offset + H) (last (suc k)) (fine (suc k)) (v .block) (omega (arith, ld)) (ap typeOf byte ∙ no-type pay x))
+      go (inl a) = stored (ap₂ (λ (m : List ℕ) (j : ℕ). getD m j 0) (as-begun (suc k) c) ad ∙ first-stored gr (g .s) t q pay img new (suc k) a (x .some)) (eqb (getD pay 0 0) 255) refl
+        where
+          -- FF reads as a free place
+          stored : getD (last (suc k)) (address g dst (at .offset + H)) 0 ≡ getD pay 0 0 → (f : Bool) → eqb (getD pay 0 0) 255 ≡ f
+              → (infoAt g (place g dst (at .offset + H)) (last (suc k)) ≡ done none) ⊎ (infoAt g (place g dst (at .offset + H)) (last (suc k)) ≡ refused 2)
+          stored byte true e = inl (free-info g dst (at .offset + H) (last (suc k)) (fine (suc k)) (v .block) (omega (arith, ld)) (byte ∙ eqb-true (getD pay 0 0) 255 e))
+          stored byte false e =
+              let text : Text pay = record { some = x .some; no-metadata = x .no-metadata; no-data = x .no-data; no-name = x .no-name; no-blank = eqb-false (getD pay 0 0) 255 e } in
+              inr (broken-info g dst (at .offset + H) (last (suc k)) (fine (suc k)) (v .block) (omega (arith, ld)) (ap typeOf byte ∙ no-type pay text))
       go (inr a) =
           let byte : getD (last (suc k)) (address g dst (at .offset + H)) 0 ≡ 255 =
           ap₂ (λ (m : List ℕ) (j : ℕ). getD m j 0) (as-begun (suc k) c) ad ∙ first-kept gr (g .s) t q pay img new (suc k) (omega arith) ∙ w .erased H (omega arith) in
           inl (free-info g dst (at .offset + H) (last (suc k)) (fine (suc k)) (v .block) (omega (arith, ld)) byte)
 
-  cut-shows-at : Text pay → (k n : ℕ) → k ≤ N → NoneFinished (listFrom n g (placed dst (at .offset)) (last k) .visits)
+  cut-shows-at : Untyped pay → (k n : ℕ) → k ≤ N → NoneFinished (listFrom n g (placed dst (at .offset)) (last k) .visits)
   unfolding listFrom
   cut-shows-at x k zero c = tt
   cut-shows-at x zero (suc n) c =

@@ -69,7 +69,15 @@ pub record CutListed (g : Geometry) (at : ObjectLocation) (t : ObjectType) (pay 
 unfoldable pub CutListings : Type 0
 CutListings = (g : Geometry) (at : ObjectLocation) (t : ObjectType) (pay img : List ℕ) → Room g at pay img → FreeEnd g at img → CutListed g at t pay img
 
--- ---- what such a listing shows: with a payload that begins like text, nothing finished at the object's place or behind it before its finish mark
+-- ---- what such a listing shows: with a payload that does not begin with a type, nothing finished at the object's place or behind it before its
+-- finish mark
+
+-- some bytes, of which the first is no type
+pub record Untyped (bs : List ℕ) : Type 0 where
+  pub some : 0 < length bs
+  pub no-metadata : getD bs 0 0 ≢ 0x8F
+  pub no-data : getD bs 0 0 ≢ 0x8E
+  pub no-name : getD bs 0 0 ≢ 0x8D
 
 abbrev pub NoneFinished : List Visit → Type 0
 NoneFinished [] = Unit {0}
@@ -77,7 +85,7 @@ NoneFinished (v ∷ vs) = (rankOf (v .object .state) ≢ 2) × NoneFinished vs
 
 unfoldable pub CutShows : Type 0
 CutShows =
-    (g : Geometry) (at : ObjectLocation) (t : ObjectType) (pay img : List ℕ) → Room g at pay img → FreeEnd g at img → Text pay → (k n : ℕ) → k ≤ marksAfter g pay
+    (g : Geometry) (at : ObjectLocation) (t : ObjectType) (pay img : List ℕ) → Room g at pay img → FreeEnd g at img → Untyped pay → (k n : ℕ) → k ≤ marksAfter g pay
     → NoneFinished (listFrom n g (placed (at .block) (at .offset)) (after g at t pay img k) .visits)
 
 -- ---- the whole object is one visit more, and the listing ends behind it: at a free place where a header fits there, or at the block's end

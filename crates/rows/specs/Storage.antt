@@ -169,7 +169,7 @@ refusals =
 
 -- ---- a move that is cut inside its payload: a listing steps over the copy's header alone, and finds in the bytes 8E F0 00 of the hash a finished
 -- object at 58, whose own hash runs past the block. Both blocks can be listed, and the lookup is refused; with another hash the listing is refused
--- there
+-- there, and with FF first it ends there
 
 abbrev begun : List ℕ → List ℕ
 begun bs = block 0x55 ((0x8F ∷ 0x00 ∷ 44 ∷ replicate 44 0) ++ (0x8F ∷ 0xFF ∷ 0xFF ∷ bs))
@@ -182,6 +182,7 @@ phantoms =
     finds (begun [] ++ original (0x8E ∷ 0xF0 ∷ 0x00 ∷ 7 ∷ [])) pathA 0x0700F08E (1 ∷ 12 ∷ [])
     ∷ finds (begun (0x8E ∷ 0xF0 ∷ 0x00 ∷ []) ++ original (0x8E ∷ 0xF0 ∷ 0x00 ∷ 7 ∷ [])) pathA 0x0700F08E (3 ∷ [])
     ∷ finds (begun (0x41 ∷ 0xF0 ∷ 0x00 ∷ []) ++ original (0x41 ∷ 0xF0 ∷ 0x00 ∷ 7 ∷ [])) pathA 0x0700F041 (2 ∷ [])
+    ∷ finds (begun (0xFF ∷ 0xF0 ∷ 0x00 ∷ []) ++ original (0xFF ∷ 0xF0 ∷ 0x00 ∷ 7 ∷ [])) pathA 0x0700F0FF (1 ∷ 12 ∷ [])
     ∷ []
 
 -- ---- a read joins payloads from a position on: it is taken off once, not in each object, and a place that comes again is read again; behind what
