@@ -50,7 +50,8 @@ use Rattle.powercut.proofs.Scans.{room-is, end-is}
 use Rattle.fresh.proofs.Scans.{fits, walked}
 use Rattle.byname.proofs.Agreed.{name-same, metadata-same, named-same}
 use Rattle.byname.proofs.Payloads.{metadataIn, metadata-of, named-by}
-use Rattle.byname.proofs.Search.{finished-append, all-append, NotIt, blockTour, Quiet, found-in, listed-block, other-kind, has-kind}
+use Rattle.storage.proofs.Lists.{finished-append, all-append}
+use Rattle.byname.proofs.Search.{NotIt, blockTour, Quiet, found-in, listed-block, other-kind, has-kind}
 use Rattle.byname.proofs.Kept.{mark-inside, whole-img, original-inside, block-agrees}
 
 pub no-finished : (vs : List Visit) → NoneFinished vs → finishedIn vs ≡ []

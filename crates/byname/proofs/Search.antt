@@ -12,31 +12,16 @@ use Rattle.medium.specs.Geometry.{checkOf}
 use Rattle.medium.specs.Operation.{Answer, done, refused}
 use Rattle.objects.specs.declared.location.ObjectLocation.{ObjectLocation}
 use Rattle.objects.specs.declared.header.ObjectHeader.{ObjectHeader}
-use Rattle.objects.specs.Listing.{startOf, Visit, listing}
+use Rattle.objects.specs.Listing.{startOf, listing}
 use Rattle.blocks.specs.declared.header.BlockType.the-variants.{Metadata}
 use Rattle.blocks.specs.BlockHeader.{blockHeaderAt}
-use Rattle.storage.specs.Order.{Tour, tourBy, joined, isFinished, finishedIn, listedTour, openTour, isOf, openOf, tourIf, blocksTour, tourFrom, startVisit}
+use Rattle.storage.specs.Order.{Tour, tourBy, joined, listedTour, openTour, isOf, openOf, tourIf, blocksTour, tourFrom, startVisit}
 use Rattle.storage.specs.Lookup.{isNamed, firstNamed, lookup}
 use Rattle.storage.specs.Laws.{All}
 use Rattle.medium.proofs.Checks.{fine-of-check}
 use Rattle.objects.proofs.Answers.{gate-on}
 use Rattle.shown.proofs.Reading.{read-yes}
 use Rattle.storage.proofs.Finding.{joins}
-
--- ---- finished objects of visits that are joined
-
-pub finished-append : (xs ys : List Visit) → finishedIn (xs ++ ys) ≡ finishedIn xs ++ finishedIn ys
-finished-append [] ys = refl
-finished-append (x ∷ xs) ys = go (isFinished (x .object)) (finished-append xs ys)
-  where
-    go : (b : Bool) → finishedIn (xs ++ ys) ≡ finishedIn xs ++ finishedIn ys
-        → pick b (x .object ∷ finishedIn (xs ++ ys)) (finishedIn (xs ++ ys)) ≡ pick b (x .object ∷ finishedIn xs) (finishedIn xs) ++ finishedIn ys
-    go true e = ap (λ (l : List ObjectHeader). x .object ∷ l) e
-    go false e = e
-
-pub all-append : {A : Type 0} (P : A → Type 0) (xs ys : List A) → All P xs → All P ys → All P (xs ++ ys)
-all-append P [] ys a b = b
-all-append P (x ∷ xs) ys a b = (a .0, all-append P xs ys (a .1) b)
 
 module _ (g : Geometry) (path : List ℕ) (hash : ℕ) (x : List ℕ) where
   abbrev pub NotIt : List ObjectHeader → Type 0

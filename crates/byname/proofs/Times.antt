@@ -36,7 +36,8 @@ use Rattle.powercut.proofs.Ran.{Ready}
 use Rattle.powercut.proofs.Survive.{copy-size, told, ready}
 use Rattle.fresh.proofs.Scans.{free-info}
 use Rattle.byname.proofs.Counted.{times, times-append, times-none, times-one, inBlock, listed-once, listed-twice}
-use Rattle.byname.proofs.Search.{finished-append, blockTour, listed-block}
+use Rattle.storage.proofs.Lists.{finished-append}
+use Rattle.byname.proofs.Search.{blockTour, listed-block}
 use Rattle.byname.proofs.Kept.{whole-img}
 use Rattle.byname.proofs.Left.{no-finished, at-original, behind-original, finished-h, fine, mark-in, whole-in, list-no, quiet-else, kind-src, before-no, src-visits, named-whole, dst-room, dst-objects, none-there, dst-no, gone-span, agree-after, between-no, whole-walk, quiet-src, through-no}
 use Rattle.byname.proofs.Cut.{survives, frame, none-yet, to-copy, none-to-copy}

@@ -3,3 +3,4 @@ pub mod Agreeing
 pub mod Walk
 pub mod Steps
 pub mod Whole
+pub mod Refused

@@ -1,4 +1,5 @@
 pub mod Order
+pub mod Lists
 pub mod Looking
 pub mod Pieces
 pub mod Naming
