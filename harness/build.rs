@@ -5,8 +5,8 @@
 
 use std::{env, path::PathBuf};
 
-const LAYERS: [&str; 6] = ["MEDIUM", "OBJECTS", "BLOCKS", "COLLECTOR", "BATCH", "STORAGE"];
-const ARCHIVES: [&str; 4] = ["cface", "cface_blocks", "cface_batch", "cface_storage"];
+const LAYERS: [&str; 7] = ["MEDIUM", "OBJECTS", "BLOCKS", "COLLECTOR", "BATCH", "STORAGE", "SWEEP"];
+const ARCHIVES: [&str; 5] = ["cface", "cface_blocks", "cface_batch", "cface_storage", "cface_sweep"];
 
 fn main() {
     println!("cargo:rerun-if-env-changed=STUMPCHOIR_LIB");

@@ -8,8 +8,8 @@
  *
  * Every function answers an enum stumpchoir_answer. 6 comes first, then 7 where there is an image, then 4 for numbers that no value has,
  * then what the steps of the operation give, in their order. A refused call leaves every out value as it was and every in/out value as it
- * went in, but for a writer, which is spent after 8, and for *done of stumpchoir_write_all; image and units have exactly what was stored
- * before the refusal.
+ * went in, but for a writer, which is spent after 8, for *done of stumpchoir_write_all, and for *twins and *unreferred of stumpchoir_sweep; image
+ * and units have exactly what was stored before the refusal.
  *
  * Pointers: none is kept after a call. No two of one call may overlap. `units` may be null where `fused` is false, and a buffer may be where
  * its length is 0; no other may be. A length has to be that of the buffer, since no call can tell
@@ -43,7 +43,8 @@ enum stumpchoir_answer {
     STUMPCHOIR_BAD_ROOM = 7,
     STUMPCHOIR_POWER_LOST = 8,
     STUMPCHOIR_RUST_PANIC = 9,
-    STUMPCHOIR_NOT_FOUND = 13
+    STUMPCHOIR_NOT_FOUND = 13,
+    STUMPCHOIR_DANGLING = 14
 };
 
 /* How finely a chip is programmed: by the bit, by words of a byte, by words of four. */
@@ -437,6 +438,18 @@ uint8_t stumpchoir_names_new(STUMPCHOIR_GEOMETRY, struct stumpchoir_names *names
 /* The next name, in the order of a lookup, into the first *len bytes of the buffer: *found is 1 with it, with the place of its
  * metadata object and with the names behind it; 0 at the end, and then nothing else changes. 7 for a name longer than the buffer. */
 uint8_t stumpchoir_names_next(STUMPCHOIR_GEOMETRY, STUMPCHOIR_IMAGE, struct stumpchoir_names *names, uint8_t *buffer, size_t buffer_len, uint32_t *found, struct stumpchoir_location *location, uint64_t *len);
+
+/* ---- The sweep ----
+ *
+ * Metadata objects are the Finalized ones that are listed in Metadata blocks, data and name objects those in Data blocks; other blocks are not
+ * looked at. A delete mark is one unit each, and nothing else is stored. *twins and *unreferred are written in every case, also where the call is
+ * refused; after 8 the same call again goes on. */
+
+/* Of Finalized metadata objects of equal type and payload bytes the first stays, in block and offset order, and the others are
+ * deleted; then each Finalized object of a Data block is that no Finalized metadata object refers to. *twins and *unreferred are how
+ * many were deleted of each. 2 where a Metadata or Data block cannot be listed, then 14 where metadata is not a hash, a name location
+ * and whole locations within its block, or one of these has no Finalized object of a Data block; both before any store. */
+uint8_t stumpchoir_sweep(STUMPCHOIR_GEOMETRY, STUMPCHOIR_STORE, uint32_t *twins, uint32_t *unreferred);
 
 #ifdef __cplusplus
 }

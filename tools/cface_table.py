@@ -53,6 +53,7 @@ VALUES = {
 HANDS = {
     'stored': dict(code='call::hand_back'),
     'batched': dict(code='batches::hand_back'),
+    'swept': dict(code='sweeps::hand_back'),
     'headed': {'code': 'outs::hand_back', 'as': 'headerNumbers'},
     'new_writer': {'code': 'writers::hand_out', 'as': 'writerNumbers'},
     'writer': {'code': 'writers::hand_back', 'as': 'writerNumbers', 'spent': True},
@@ -245,6 +246,16 @@ STORAGE = [
          args='g, image, names, buffer, found, location, len', means='nextName g (namesOf names) (length buffer) image', by='nameOut'),
 ]
 
+SWEEP = [
+    dict(name='sweep',
+         says='Of Finalized metadata objects of equal type and payload bytes the first stays, in block and offset order, and the others are '
+              'deleted; then each Finalized object of a Data block is that no Finalized metadata object refers to. *twins and *unreferred are how '
+              'many were deleted of each. 2 where a Metadata or Data block cannot be listed, then 14 where metadata is not a hash, a name location '
+              'and whole locations within its block, or one of these has no Finalized object of a Data block; both before any store.',
+         place='store', params='twins#u32 unreferred#u32', calls='sweep::sweep', args='g, image, f', means='sweep g', hand='swept',
+         homes=['sweep sweep']),
+]
+
 BLOCKS = [
     dict(name='block_header_read', says='The header of a block: kind and erase count.', place='image', params='block header>block_header',
          calls='blocks::header::BlockHeader::read', args='g, image, block', means='blockHeaderAt g block image', hand='block_header'),
@@ -299,7 +310,7 @@ COLLECTOR = [
 
 # the crate that a module's functions are in, where it is not cface
 CRATES = {'block_calls': 'cface_blocks', 'record_calls': 'cface_blocks', 'collector_calls': 'cface_blocks', 'batch_calls': 'cface_batch',
-          'storage_calls': 'cface_storage'}
+          'storage_calls': 'cface_storage', 'sweep_calls': 'cface_sweep'}
 
 GROUPS = [
     ('medium_calls', 'The medium for C.', '/* ---- The medium ---- */', MEDIUM),
@@ -328,6 +339,11 @@ GROUPS = [
     ('storage_calls', 'Files by their names, for C.', '''/* ---- Files by their names ----
  *
  * The hash of a path is the caller's: whatever was stored with it. Nothing is stored here, and no power is needed. */''', STORAGE),
+    ('sweep_calls', 'What is left over after power cuts, deleted, for C.', '''/* ---- The sweep ----
+ *
+ * Metadata objects are the Finalized ones that are listed in Metadata blocks, data and name objects those in Data blocks; other blocks are not
+ * looked at. A delete mark is one unit each, and nothing else is stored. *twins and *unreferred are written in every case, also where the call is
+ * refused; after 8 the same call again goes on. */''', SWEEP),
 ]
 
 # ---- the numbers that cross together: a struct with its fields (name, how many numbers), and what it is
@@ -366,7 +382,8 @@ STRUCTS = {
 ENUMS = {
     'answer': ('What every function answers.', [
         ('DONE', 0), ('NOT_FORMATTED', 1), ('FS_CORRUPTED', 2), ('IO', 3), ('INVALID_OPERATION', 4), ('INSUFFICIENT_SPACE', 5),
-        ('BAD_GEOMETRY', 6), ('BAD_ROOM', 7), ('POWER_LOST', 8), ('RUST_PANIC', 9), ('NOT_FOUND', 13)]),
+        ('BAD_GEOMETRY', 6), ('BAD_ROOM', 7), ('POWER_LOST', 8), ('RUST_PANIC', 9), ('NOT_FOUND', 13),
+        ('DANGLING', 14)]),
     'granularity': ('How finely a chip is programmed: by the bit, by words of a byte, by words of four.', [
         ('BIT', 0), ('WORD1', 1), ('WORD4', 4)]),
     'type': ('Types of objects, as their bytes; FREE where there is none.', [
@@ -389,8 +406,8 @@ HEAD = r"""/* Stumpchoir for C: the low-level layer of norfs over an image in me
  *
  * Every function answers an enum stumpchoir_answer. 6 comes first, then 7 where there is an image, then 4 for numbers that no value has,
  * then what the steps of the operation give, in their order. A refused call leaves every out value as it was and every in/out value as it
- * went in, but for a writer, which is spent after 8, and for *done of stumpchoir_write_all; image and units have exactly what was stored
- * before the refusal.
+ * went in, but for a writer, which is spent after 8, for *done of stumpchoir_write_all, and for *twins and *unreferred of stumpchoir_sweep; image
+ * and units have exactly what was stored before the refusal.
  *
  * Pointers: none is kept after a call. No two of one call may overlap. `units` may be null where `fused` is false, and a buffer may be where
  * its length is 0; no other may be. A length has to be that of the buffer, since no call can tell

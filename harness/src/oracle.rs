@@ -1,6 +1,12 @@
 //! Runs a case on the repository's text, where it can be put to it.
 
-use crate::{answer::BAD_GEOMETRY, answer::BAD_ROOM, case::Case, model::early, op::Op, outcome::Outcome};
+use crate::{
+    answer::{BAD_GEOMETRY, BAD_ROOM},
+    case::Case,
+    model::early,
+    op::{Layer, Op},
+    outcome::Outcome,
+};
 
 pub use text::{finder, SIZES};
 
@@ -9,6 +15,11 @@ pub const SKIPPED: &str = "the repository's text was not at hand when this was b
 /// Whether the text is compiled in.
 pub fn present() -> bool {
     text::PRESENT
+}
+
+/// Whether the text has functions of the layer.
+pub fn has(layer: Layer) -> bool {
+    layer != Layer::Sweep
 }
 
 /// The text's outcome, or why this case cannot be put to it.
@@ -21,6 +32,9 @@ pub fn run(case: &Case) -> Result<Outcome, &'static str> {
         Err(BAD_GEOMETRY) => return Err("geometry refused (6), which the text has no rule for"),
         Err(BAD_ROOM) => return Err("room refused (7), which the text has no rule for"),
         Err(_) => return Err("impossible value or spent writer (4), which the text has no rule for"),
+    }
+    if !has(case.op.signature().layer) {
+        return Err("the sweep, which norfs has not");
     }
     if case.op == Op::Check {
         return Err("check has nothing of the text in it");

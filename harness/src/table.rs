@@ -1,4 +1,5 @@
-//! Counts: answers by function and number, those of batches by the records done, and how far cases were compared.
+//! Counts: answers by function and number, those of batches by the records done and those of sweeps by what was deleted, and
+//! how far cases were compared.
 
 use std::collections::BTreeMap;
 
@@ -19,6 +20,22 @@ const DONE: [(u64, &str); 7] =
 fn done(records: u64) -> Done {
     let row = DONE.iter().position(|&(most, _)| records <= most).unwrap();
     (row, DONE[row].1)
+}
+
+/// A row of the sweeps' table: whether twins were deleted, and whether objects that nothing refers to were.
+type Deleted = [bool; 2];
+
+fn deleted(values: &[u64]) -> Deleted {
+    [values[0] > 0, values[1] > 0]
+}
+
+fn deleted_name(row: Deleted) -> &'static str {
+    match row {
+        [false, false] => "none",
+        [false, true] => "unreferred",
+        [true, false] => "twins",
+        [true, true] => "twins and unreferred",
+    }
 }
 
 /// How often each number was answered; the numbers have places up to 15.
@@ -47,6 +64,8 @@ pub struct Tally {
     answers: BTreeMap<Op, Counts>,
     /// of batches, by how many records were done
     batches: BTreeMap<Done, Counts>,
+    /// of sweeps, by what was deleted
+    sweeps: BTreeMap<Deleted, Counts>,
     /// compared with text, model and library
     three: u64,
     /// compared text with model, the library not linked
@@ -64,6 +83,9 @@ impl Tally {
         if case.op.signature().layer == Layer::Batch {
             self.batches.entry(done(judged.model.values[0])).or_default()[answer] += 1;
         }
+        if case.op == Op::Sweep {
+            self.sweeps.entry(deleted(&judged.model.values)).or_default()[answer] += 1;
+        }
         match (judged.scope, &judged.library) {
             (Scope::Everything, Some(_)) => self.three += 1,
             (Scope::Everything, None) => self.text += 1,
@@ -80,6 +102,11 @@ impl Tally {
         self.batches.get(&done(records)).copied().unwrap_or_default()
     }
 
+    /// Sweeps that ended with a number after such numbers of twins and of objects that nothing refers to.
+    pub fn of_sweeps(&self, values: [u64; 2]) -> Counts {
+        self.sweeps.get(&deleted(&values)).copied().unwrap_or_default()
+    }
+
     /// The tables of answers as Markdown.
     pub fn markdown(&self) -> String {
         let functions = self.answers.iter().map(|(op, counts)| (format!("`{}`", op.name()), counts));
@@ -87,6 +114,10 @@ impl Tally {
         if !self.batches.is_empty() {
             let batches = self.batches.iter().map(|((_, name), counts)| (name.to_string(), counts));
             text += &format!("\n{}", table("records of a batch done", batches));
+        }
+        if !self.sweeps.is_empty() {
+            let sweeps = self.sweeps.iter().map(|(&row, counts)| (deleted_name(row).to_string(), counts));
+            text += &format!("\n{}", table("objects deleted by a sweep", sweeps));
         }
         text
     }

@@ -5,12 +5,15 @@ use std::process::{Command, Output};
 use harness::{
     case::Case,
     cases::{
-        stores::{set_size, Store},
+        stores::{payload, set_size, Store},
         units, Source,
     },
     compare::{judge, plant, Scope},
     geometry::Geometry,
-    model::blocks::{DATA, METADATA},
+    model::{
+        blocks::{DATA, METADATA},
+        header::TYPES,
+    },
     op::{Layer, Op, LAYERS},
     oracle,
     shrink::shrink,
@@ -40,12 +43,17 @@ fn random_cases_agree() {
         (Op::FileSize, &[0, 2, 3, 6, 7, 9]),
         (Op::FileRead, &[0, 2, 3, 6, 7, 9]),
         (Op::NamesNext, &[0, 2, 3, 6, 7]),
+        (Op::Sweep, &[0, 2, 6, 7, 8, 14]),
     ];
     for (op, numbers) in by_name {
         let counts = tally.of(op);
         for number in 0..counts.len() {
             assert_eq!(counts[number] > 5, numbers.contains(&number), "{} and {number}", op.name());
         }
+    }
+    for deleted in [[0, 0], [0, 1], [1, 0], [1, 1]] {
+        let counts = tally.of_sweeps(deleted);
+        assert!(counts[0] > 50 && counts[8] > 50, "sweeps that delete {deleted:?} hardly ever end with 0 and 8");
     }
 }
 
@@ -122,6 +130,27 @@ fn a_planted_fault_of_a_lookup_is_made_small() {
     assert_eq!((small.geometry.size, small.geometry.count, small.bytes.len()), (64, 1, 17), "{}", small.line());
 }
 
+#[test]
+fn a_planted_fault_of_a_sweep_is_made_small() {
+    let g = Geometry { granularity: 4, s: 2, c: 2, size: 256, count: 4 };
+    let mut store = Store::of(g, &[METADATA, DATA, METADATA, DATA]);
+    let file = store.file([2, 1], 9, b"street", &[b"12", b"3"]).unwrap();
+    store.file([0, 3], 7, b"another", &[b"12"]).unwrap();
+    for block in [0, 2] {
+        store.put(block, TYPES[0], &payload(g, 9, file.name_at, &file.data)).unwrap();
+    }
+    let case = Case { fuse: Some(3), image: store.flash.image, ..Case::of(Op::Sweep, g) };
+    let bad = |case: &Case| {
+        let mut judged = judge(case);
+        plant(case, &mut judged);
+        judged.difference(case).is_some()
+    };
+    assert!(bad(&case), "{}", judge(&case).show(&case));
+    let small = shrink(&case, &bad);
+    assert!(bad(&small));
+    assert_eq!((small.geometry.size, small.geometry.count, small.fuse), (128, 3, None), "{}", small.line());
+}
+
 /// Runs the program, by the runner that HARNESS_RUNNER names where this machine is of another kind.
 fn harness(words: &[&str]) -> Output {
     let program = env!("CARGO_BIN_EXE_harness");
@@ -156,6 +185,8 @@ fn a_planted_fault_is_reported() {
     assert_eq!((case.op, case.array.len()), (Op::WriteAll, 12), "two records done, and the one refused");
     let case = reported("storage");
     assert_eq!((case.op, case.bytes.len()), (Op::Lookup, 17), "the shortest path of two turns");
+    let case = reported("sweep");
+    assert_eq!((judge(&case).model.values[0], case.geometry.size), (2, 64), "two twins, and the one that stays");
 }
 
 #[test]

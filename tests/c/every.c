@@ -113,6 +113,34 @@ static void files(void)
     }
 }
 
+/* A new store: a name in block 3 and its metadata in block 1, each twice, of which both refer to the first name. */
+static void left_over(void)
+{
+    static const uint8_t name[4] = {'n', 'a', 'm', 'e'};
+    uint8_t payload[7] = {7, 0, 0, 0, 3, 0, 0};
+    struct stumpchoir_iterator named, file;
+    uint32_t i, twins = 0, unreferred = 0;
+    uint64_t n;
+    stumpchoir_format_storage(&g, POWER);
+    stumpchoir_set_block_type(&g, POWER, 1, STUMPCHOIR_KIND_METADATA);
+    stumpchoir_set_block_type(&g, POWER, 3, STUMPCHOIR_KIND_DATA);
+    stumpchoir_iterator_new(&g, 3, &named);
+    stumpchoir_iterator_new(&g, 1, &file);
+    payload[5] = (uint8_t)named.offset;
+    for (i = 0; i < 2; i++) {
+        stumpchoir_write_to(&g, POWER, 3, named.offset, STUMPCHOIR_TYPE_FILE_NAME, name, sizeof name, &n);
+        stumpchoir_align(&g, (uint32_t)n, &n);
+        named.offset += (uint32_t)n;
+        stumpchoir_write_to(&g, POWER, 1, file.offset, STUMPCHOIR_TYPE_FILE_METADATA, payload, sizeof payload, &n);
+        stumpchoir_align(&g, (uint32_t)n, &n);
+        file.offset += (uint32_t)n;
+    }
+    if (CALL(sweep, POWER, &twins, &unreferred) || twins != 1 || unreferred != 1) {
+        fprintf(stderr, "what is left over is not swept\n");
+        exit(1);
+    }
+}
+
 static void *every(void *none)
 {
     uint64_t n;
@@ -128,6 +156,7 @@ static void *every(void *none)
     objects();
     blocks();
     files();
+    left_over();
     CALL(erase, POWER, 3);
     CALL(write, POWER, 3, 0, bytes, 100);
     return none;

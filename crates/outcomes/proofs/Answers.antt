@@ -69,6 +69,7 @@ use Rattle.crossing.specs.declared.records.BlockTypeRead.the-variants as block-
 use Rattle.objects.specs.declared.types.ObjectTypeRead.{ObjectTypeRead}
 use Rattle.objects.specs.declared.types.ObjectTypeRead.the-variants as object-type
 use Rattle.batch.specs.declared.Batched.{Batched}
+use Rattle.sweep.specs.declared.Swept.{Swept}
 use Rattle.storage.specs.declared.visit.Visited.{Visited}
 use Rattle.storage.specs.declared.visit.Visited.the-variants as visited
 use Rattle.storage.specs.declared.names.NextName.{NextName}
@@ -354,6 +355,14 @@ batched-one r r′ i i′ e p q =
     let s = one-outcome (r .answer) (r′ .answer) tt tt (both i (r .done ∷ [])) (both i′ (r′ .done ∷ [])) e p q in
     let n : r .done ≡ r′ .done = ap (λ (z : Both). getD (z .table) 0 0) (s .state) in
     (ap (λ (z : Stored). record { answer = z; done = r .done }) (s .answer) ∙ ap (λ (z : ℕ). record { answer = r′ .answer; done = z }) n, ap (λ (z : Both). z .image) (s .state))
+
+-- with two of them
+pub swept-one : (r r′ : Swept) (i i′ : List ℕ) (e : EndIn Both (Unit {0})) → ended (r .answer) (both i (r .twins ∷ r .unreferred ∷ [])) ≡ e → ended (r′ .answer) (both i′ (r′ .twins ∷ r′ .unreferred ∷ [])) ≡ e → (r ≡ r′) × (i ≡ i′)
+swept-one r r′ i i′ e p q =
+    let s = one-outcome (r .answer) (r′ .answer) tt tt (both i (r .twins ∷ r .unreferred ∷ [])) (both i′ (r′ .twins ∷ r′ .unreferred ∷ [])) e p q in
+    let t : r .twins ≡ r′ .twins = ap (λ (z : Both). getD (z .table) 0 0) (s .state) in
+    let u : r .unreferred ≡ r′ .unreferred = ap (λ (z : Both). getD (z .table) 1 0) (s .state) in
+    (ap (λ (z : Stored). record { answer = z; twins = r .twins; unreferred = r .unreferred }) (s .answer) ∙ ap (λ (z : ℕ). record { answer = r′ .answer; twins = z; unreferred = r .unreferred }) t ∙ ap (λ (z : ℕ). record { answer = r′ .answer; twins = r′ .twins; unreferred = z }) u, ap (λ (z : Both). z .image) (s .state))
 
 -- with a value beside it: the second clause says which one a refusal gives back
 module _ {S : Type 0} where

@@ -9,10 +9,12 @@ pub mod Cface
 pub mod CfaceBlocks
 pub mod CfaceBatch
 pub mod CfaceStorage
+pub mod CfaceSweep
 pub mod Lines
 pub mod Moving
 pub mod Batch
 pub mod Storage
+pub mod Sweep
 pub mod Powercut
 pub mod Crossing
 pub mod GeometryRecord

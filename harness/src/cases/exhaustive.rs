@@ -6,6 +6,7 @@ mod collector;
 mod medium;
 mod objects;
 mod storage;
+mod sweep;
 
 use crate::{case::Case, geometry::Geometry, op::Layer};
 
@@ -21,6 +22,7 @@ pub fn all(layer: Layer, visit: Visit) -> bool {
         Layer::Collector => collector::all(visit),
         Layer::Batch => batch::all(visit),
         Layer::Storage => storage::all(visit),
+        Layer::Sweep => sweep::all(visit),
     }
 }
 

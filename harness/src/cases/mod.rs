@@ -11,11 +11,17 @@ mod objects;
 mod spoil;
 pub mod storage;
 pub mod stores;
+pub mod sweep;
 mod values;
 
 use std::collections::VecDeque;
 
-use crate::{case::Case, model, op::Layer, random::Random};
+use crate::{
+    case::Case,
+    model,
+    op::{Layer, Op},
+    random::Random,
+};
 
 /// An endless row of random cases of one layer.
 pub struct Source {
@@ -25,7 +31,7 @@ pub struct Source {
 }
 
 /// No more units than this are counted through one by one.
-const SWEEP: u32 = 96;
+const MOST_UNITS: u32 = 96;
 
 impl Source {
     pub fn new(layer: Layer, seed: u64) -> Source {
@@ -41,16 +47,18 @@ impl Source {
             Layer::Collector => collector::make(r),
             Layer::Batch => batch::make(r),
             Layer::Storage => storage::make(r),
+            Layer::Sweep => sweep::make(r),
         }
     }
 
-    /// Gives the case a fuse, or puts it in line once for every fuse from 0 to one past its last unit.
+    /// Gives the case a fuse, or puts it in line once for every fuse from 0 to one past its last unit, as each sweep.
     fn fuse(&mut self, mut case: Case) -> Case {
-        if !case.op.stores() || self.random.one_in(3) {
+        let every = case.op == Op::Sweep;
+        if !case.op.stores() || (!every && self.random.one_in(3)) {
             return case;
         }
         let units = units(&case);
-        if units <= SWEEP && self.random.one_in(16) {
+        if units <= MOST_UNITS && (every || self.random.one_in(16)) {
             self.waiting.extend((0..=units + 1).map(|fuse| Case { fuse: Some(fuse), ..case.clone() }));
             return case;
         }

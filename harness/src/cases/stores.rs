@@ -62,6 +62,11 @@ impl Store {
         Some([block, at])
     }
 
+    /// Nothing more goes into the block.
+    pub fn close(&mut self, block: u32) {
+        self.ends[block as usize] = self.flash.geometry.size;
+    }
+
     /// A file with its metadata in one block and its name and data in another; none where it does not fit.
     pub fn file(&mut self, blocks: [u32; 2], hash: u32, name: &[u8], data: &[&[u8]]) -> Option<File> {
         let name_at = self.put(blocks[1], TYPES[2], name)?;

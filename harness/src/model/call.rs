@@ -34,6 +34,7 @@ pub fn run(case: &Case) -> Ran {
     let answer = early::refuse(case).and_then(|()| match case.op.signature().layer {
         Layer::Collector => collect(case, &mut after, &mut rule),
         Layer::Batch => batch(case, &mut after),
+        Layer::Sweep => sweep(case, &mut after),
         _ => call(case, &mut after),
     });
     if let Err(number) = answer {
@@ -66,6 +67,17 @@ fn collect(case: &Case, after: &mut Outcome, rule: &mut bool) -> Answer<()> {
 fn batch(case: &Case, after: &mut Outcome) -> Answer<()> {
     let mut flash = Flash::new(case.geometry, std::mem::take(&mut after.image), case.fuse);
     let answer = flash.write_all(case.args[0], &case.array, &case.bytes, &mut after.values[0]);
+    after.image = flash.image;
+    after.fuse = flash.fuse;
+    answer
+}
+
+/// Both numbers of objects deleted are told also after a refusal.
+fn sweep(case: &Case, after: &mut Outcome) -> Answer<()> {
+    let mut flash = Flash::new(case.geometry, std::mem::take(&mut after.image), case.fuse);
+    let (mut twins, mut unreferred) = (0, 0);
+    let answer = flash.sweep(&mut twins, &mut unreferred);
+    after.values = vec![twins, unreferred];
     after.image = flash.image;
     after.fuse = flash.fuse;
     answer

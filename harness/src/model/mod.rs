@@ -13,6 +13,7 @@ pub mod listing;
 pub mod metadata;
 pub mod reader;
 pub mod storage;
+pub mod sweep;
 pub mod writer;
 
 pub use call::{run, Ran};

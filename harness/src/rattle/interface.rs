@@ -382,4 +382,13 @@ unsafe extern "C" {
         location: *mut u32,
         len: *mut u64,
     ) -> u8;
+    pub fn stumpchoir_sweep(
+        geometry: *const u32,
+        image: *mut u8,
+        image_len: usize,
+        fused: bool,
+        units: *mut u32,
+        twins: *mut u32,
+        unreferred: *mut u32,
+    ) -> u8;
 }

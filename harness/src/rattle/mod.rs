@@ -15,6 +15,8 @@ mod medium;
 mod objects;
 #[cfg(feature = "storage")]
 mod storage;
+#[cfg(feature = "sweep")]
+mod sweep;
 
 use crate::{
     case::Case,
@@ -30,6 +32,7 @@ pub fn present(layer: Layer) -> bool {
         Layer::Collector => cfg!(feature = "collector"),
         Layer::Batch => cfg!(feature = "batch"),
         Layer::Storage => cfg!(feature = "storage"),
+        Layer::Sweep => cfg!(feature = "sweep"),
     }
 }
 
@@ -62,6 +65,8 @@ fn call(case: &Case, lent: &mut Lent) -> Option<u8> {
         Layer::Batch => Some(batch::call(case, lent)),
         #[cfg(feature = "storage")]
         Layer::Storage => Some(storage::call(case, lent)),
+        #[cfg(feature = "sweep")]
+        Layer::Sweep => Some(sweep::call(case, lent)),
         #[allow(unreachable_patterns)]
         _ => None,
     }

@@ -5,6 +5,7 @@ use harness::{case::Case, geometry::Geometry, model, op::Op, oracle, outcome::Ou
 
 pub mod named;
 pub mod store;
+pub mod sweeps;
 
 #[derive(Clone)]
 pub struct Bench {

@@ -11,8 +11,9 @@ pub const BAD_ROOM: u8 = 7;
 pub const POWER_LOST: u8 = 8;
 pub const RUST_PANIC: u8 = 9;
 pub const NOT_FOUND: u8 = 13;
+pub const DANGLING: u8 = 14;
 
-pub const NAMES: [(u8, &str); 11] = [
+pub const NAMES: [(u8, &str); 12] = [
     (DONE, "done"),
     (NOT_FORMATTED, "NotFormatted"),
     (FS_CORRUPTED, "FsCorrupted"),
@@ -24,6 +25,7 @@ pub const NAMES: [(u8, &str); 11] = [
     (POWER_LOST, "PowerLost"),
     (RUST_PANIC, "RustPanic"),
     (NOT_FOUND, "NotFound"),
+    (DANGLING, "Dangling"),
 ];
 
 /// The number with its name.

@@ -8,14 +8,15 @@ pub enum Layer {
     Collector,
     Batch,
     Storage,
+    Sweep,
 }
 
-pub const LAYERS: [Layer; 6] =
-    [Layer::Medium, Layer::Objects, Layer::Blocks, Layer::Collector, Layer::Batch, Layer::Storage];
+pub const LAYERS: [Layer; 7] =
+    [Layer::Medium, Layer::Objects, Layer::Blocks, Layer::Collector, Layer::Batch, Layer::Storage, Layer::Sweep];
 
 impl Layer {
     pub fn name(self) -> &'static str {
-        ["medium", "objects", "blocks", "collector", "batch", "storage"][self as usize]
+        ["medium", "objects", "blocks", "collector", "batch", "storage", "sweep"][self as usize]
     }
 }
 
@@ -188,6 +189,8 @@ ops! {
     FileRead "file_read" Storage Image ["block" "offset" "position" "position_high"] None Buffer &[Q];
     NamesNew "names_new" Storage Nothing [] None None &[W; 2];
     NamesNext "names_next" Storage Image [] Iterator Buffer &[W, W, W, Q];
+
+    Sweep "sweep" Sweep Store [] None None &[Always, Always];
 }
 
 impl Op {

@@ -57,6 +57,7 @@ pub fn run_on<M: Chip>(case: &Case) -> Outcome {
         Layer::Collector => call_collector::call(case, &mut medium, &mut shown).map_err(number),
         Layer::Batch => call_batch::call(case, &mut medium, &mut shown),
         Layer::Storage => call_storage::call(case, &mut medium, &mut shown).map_err(number),
+        Layer::Sweep => unreachable!("the text has no sweep"),
     });
     let (image, fuse, lost) = medium.end();
     after.image = image;

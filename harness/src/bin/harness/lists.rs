@@ -41,10 +41,14 @@ pub fn record(o: &Options) -> Result<(), String> {
         return Err(oracle::SKIPPED.to_string());
     }
     let file = o.out.as_ref().ok_or(USAGE)?;
+    let layers: Vec<Layer> = o.layers.iter().copied().filter(|&layer| oracle::has(layer)).collect();
+    if layers.is_empty() {
+        return Err("the text has no function of this layer".to_string());
+    }
     let cases = o.cases.unwrap_or(1_000);
     let name = if o.layers.len() == LAYERS.len() { "all" } else { o.layers[0].name() };
     let mut text = format!("# harness record --layer {name} --cases {cases} --seed {} --out FILE\n", o.seed);
-    for &layer in &o.layers {
+    for layer in layers {
         for line in lines(layer, o.seed).take(cases as usize) {
             text += &line;
             text.push('\n');

@@ -6,7 +6,7 @@ use harness::{
 };
 
 pub const USAGE: &str = "\
-harness compare  [--layer medium|objects|blocks|collector|batch|storage|all] [--cases N] [--seed S] [--table FILE] [--random-only]
+harness compare  [--layer medium|objects|blocks|collector|batch|storage|sweep|all] [--cases N] [--seed S] [--table FILE] [--random-only]
                  small cases counted through, then N random ones a layer; --random-only leaves the small ones out
                  --plant: with a fault planted in the library's outcomes, to see it found
 harness moves    [--cases N] [--seed S]        N moves, each at every fuse, with the promise about cuts checked

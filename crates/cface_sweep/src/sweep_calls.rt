@@ -1,0 +1,31 @@
+// What is left over after power cuts, deleted, for C.
+// Made by tools/cface.
+use crate::sweeps;
+use crossing::call;
+ghost use mathlib.Core.Path.{_≡_};
+ghost use mathlib.Core.List.{[], _∷_};
+ghost use Rattle.medium.specs.Beside.{both};
+ghost use Rattle.medium.specs.Operation.{run};
+ghost use Rattle.sweep.specs.Sweep.{sweep};
+ghost use Rattle.crossing.specs.Crossing.{crossed, crossing, fuseOf, geometryIn};
+
+// Of Finalized metadata objects of equal type and payload bytes the first stays, in block and offset order, and the others are deleted;
+// then each Finalized object of a Data block is that no Finalized metadata object refers to. *twins and *unreferred are how many were
+// deleted of each. 2 where a Metadata or Data block cannot be listed, then 14 where metadata is not a hash, a name location and whole
+// locations within its block, or one of these has no Finalized object of a Data block; both before any store.
+#[no_mangle]
+pub extern "C" fn stumpchoir_sweep(
+    geometry: &[u32; 6],
+    image: &mut [u8],
+    fused: bool,
+    units: &mut u32,
+    twins: &mut u32,
+    unreferred: &mut u32,
+) -> u8
+    ensures { λ r. ⌜ crossed r (now (units .exit)) (both (now (image .exit)) (now (twins .exit) ∷ now (unreferred .exit) ∷ [])) ≡ crossing (now (units .entry)) (run (fuseOf fused (now (units .entry))) (sweep (geometryIn (now (geometry .entry)))) (both (now (image .entry)) (0 ∷ 0 ∷ []))) ⌝ }
+{
+    let g = call::geometry(geometry);
+    let f = call::fuse_of(fused, units);
+    let a = sweep::sweep(g, image, f);
+    sweeps::hand_back(a, units, twins, unreferred)
+}

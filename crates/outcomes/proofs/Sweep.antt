@@ -1,0 +1,9 @@
+-- Made by tools/outcomes. The contract of each public function of sweep allows one outcome.
+use mathlib.Core.Path.{_≡_}
+use denote.Ref.{now}
+use Rattle.outcomes.proofs.One.{One}
+use Rattle.outcomes.proofs.Answers.{swept-one}
+use Rattle.sweep.proofs.sweep.Reads as sweep
+
+pub sweep-one : One sweep.Post (λ _ r e r′ e′. (r ≡ r′) × (now (e .1 .0) ≡ now (e′ .1 .0)))
+sweep-one _ _ r r′ e e′ p q = swept-one r r′ _ _ _ p q

@@ -1,0 +1,12 @@
+use borrow.Author.Tests.{eq-eqb, ne-eqb}
+use Rattle.sweep.proofs.refs.is_at.Statement.{statement}
+use Rattle.sweep.proofs.refs.is_at.Tie as tie
+
+returns : tie.Need-returns
+returns c = rw (ne-eqb _ _ (c .if1 .taken))
+
+returns-2 : tie.Need-returns-2
+returns-2 c = rw (eq-eqb _ _ (c .before .before .if1 .left))
+
+pub is-at-spec : {M : Type 1} → statement M
+is-at-spec = tie.close (tie.spec returns returns-2)
