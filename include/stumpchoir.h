@@ -8,8 +8,8 @@
  *
  * Every function answers an enum stumpchoir_answer. 6 comes first, then 7 where there is an image, then 4 for numbers that no value has,
  * then what the steps of the operation give, in their order. A refused call leaves every out value as it was and every in/out value as it
- * went in, but for a writer, which is spent after 8, for *done of stumpchoir_write_all, and for *twins and *unreferred of stumpchoir_sweep; image
- * and units have exactly what was stored before the refusal.
+ * went in, but for a writer, which is spent after 8, for *done of stumpchoir_write_all, and for *twins, *unreferred and words of the sweeps;
+ * image and units have exactly what was stored before the refusal.
  *
  * Pointers: none is kept after a call. No two of one call may overlap. `units` may be null where `fused` is false, and a buffer may be where
  * its length is 0; no other may be. A length has to be that of the buffer, since no call can tell
@@ -450,6 +450,10 @@ uint8_t stumpchoir_names_next(STUMPCHOIR_GEOMETRY, STUMPCHOIR_IMAGE, struct stum
  * many were deleted of each. 2 where a Metadata or Data block cannot be listed, then 14 where metadata is not a hash, a name location
  * and whole locations within its block, or one of these has no Finalized object of a Data block; both before any store. */
 uint8_t stumpchoir_sweep(STUMPCHOIR_GEOMETRY, STUMPCHOIR_STORE, uint32_t *twins, uint32_t *unreferred);
+
+/* The same, and sooner: what was met is noted in the words, which the caller lends, one for each byte of the image; 7 for another
+ * number of them, behind 6 and 7. They come back as 0, and after 6 or 7 as they were. */
+uint8_t stumpchoir_sweep_with(STUMPCHOIR_GEOMETRY, STUMPCHOIR_STORE, uint32_t *twins, uint32_t *unreferred, uint32_t *words, size_t words_len);
 
 #ifdef __cplusplus
 }

@@ -5,11 +5,12 @@ A row is a function:
   says     what it does, for people: the comment in the code and in the header (says_c: another one in the header)
   place    alone: no image; image: one to read; store: one to store into, with a fuse
   params   its own parameters, in order: n is a u32, n:u8 another number, n[] bytes, n[]> bytes that are filled, table[]=:u32 the table;
-           n<header numbers that come in, n=header that change, n>header that go out; n>u64 a number that goes out; n#u32 one that does in
+           n[]~:u32 numbers that are lent; n<header numbers that come in, n=header that change, n>header that go out; n>u64 a number that goes out; n#u32 one that does in
            every case, from 0 on
   value    what is read from numbers first (VALUES), where something is; numbers that say none are refused behind 6 and 7
   calls    the function of the library (or, in crate::.., one of this crate that hands the answer out too), `on` a value, with `args`
   means    the definition that its contract cites, over g, the value and the parameters
+  leaves   what a call leaves in numbers that are lent, over g and the parameters as they went in
   hand     how the answer goes out (HANDS), where `calls` does not do it itself: then `as` or `by` says how the values cross
   before   lines of code before the call, with `needs` of calls in them
   told     what the call's promise gives, where it is not just the definition; `ended` the same of a store
@@ -254,6 +255,11 @@ SWEEP = [
               'and whole locations within its block, or one of these has no Finalized object of a Data block; both before any store.',
          place='store', params='twins#u32 unreferred#u32', calls='sweep::sweep', args='g, image, f', means='sweep g', hand='swept',
          homes=['sweep sweep']),
+    dict(name='sweep_with',
+         says='The same, and sooner: what was met is noted in the words, which the caller lends, one for each byte of the image; 7 for another number of '
+              'them, behind 6 and 7. They come back as 0, and after 6 or 7 as they were.',
+         place='store', params='twins#u32 unreferred#u32 words[]~:u32', calls='sweep::sweep_with', args='g, image, f, words', means='sweepWith g (length words)',
+         leaves={'words': 'wordsAfter (wordsFit g (length image) (length words)) words'}, hand='swept'),
 ]
 
 BLOCKS = [
@@ -406,8 +412,8 @@ HEAD = r"""/* Stumpchoir for C: the low-level layer of norfs over an image in me
  *
  * Every function answers an enum stumpchoir_answer. 6 comes first, then 7 where there is an image, then 4 for numbers that no value has,
  * then what the steps of the operation give, in their order. A refused call leaves every out value as it was and every in/out value as it
- * went in, but for a writer, which is spent after 8, for *done of stumpchoir_write_all, and for *twins and *unreferred of stumpchoir_sweep; image
- * and units have exactly what was stored before the refusal.
+ * went in, but for a writer, which is spent after 8, for *done of stumpchoir_write_all, and for *twins, *unreferred and words of the sweeps;
+ * image and units have exactly what was stored before the refusal.
  *
  * Pointers: none is kept after a call. No two of one call may overlap. `units` may be null where `fused` is false, and a buffer may be where
  * its length is 0; no other may be. A length has to be that of the buffer, since no call can tell

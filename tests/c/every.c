@@ -113,6 +113,9 @@ static void files(void)
     }
 }
 
+static uint8_t before[sizeof image], swept[sizeof image];
+static uint32_t words[sizeof image];
+
 /* A new store: a name in block 3 and its metadata in block 1, each twice, of which both refer to the first name. */
 static void left_over(void)
 {
@@ -135,8 +138,15 @@ static void left_over(void)
         stumpchoir_align(&g, (uint32_t)n, &n);
         file.offset += (uint32_t)n;
     }
+    memcpy(before, image, sizeof image);
     if (CALL(sweep, POWER, &twins, &unreferred) || twins != 1 || unreferred != 1) {
         fprintf(stderr, "what is left over is not swept\n");
+        exit(1);
+    }
+    memcpy(swept, image, sizeof image);
+    memcpy(image, before, sizeof image);
+    if (CALL(sweep_with, POWER, &twins, &unreferred, words, sizeof image) || twins != 1 || unreferred != 1 || memcmp(image, swept, sizeof image)) {
+        fprintf(stderr, "with words it is swept otherwise\n");
         exit(1);
     }
 }

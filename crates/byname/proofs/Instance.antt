@@ -40,28 +40,28 @@ use Rattle.byname.proofs.Cut.{found-at-every-cut}
 use Rattle.byname.proofs.Times.{twice-between}
 use Rattle.byname.proofs.Contents.{reads-the-same}
 
-abbrev chip : Geometry
+abbrev pub chip : Geometry
 chip = blocks 3 Bit
 
 abbrev headed : ℕ → List ℕ → List ℕ
 headed type bs = holding 64 0 ((0xBA ∷ 0x01 ∷ 0x44 ∷ type ∷ 0 ∷ 0 ∷ 0 ∷ 0 ∷ []) ++ bs)
 
 -- an empty Metadata block, one with the street's metadata at 8, and a Data block with its name at 8 and its content at 12
-abbrev store : List ℕ
+abbrev pub store : List ℕ
 store =
     headed 0x55 [] ++ headed 0x55 (0x8F ∷ 0xF0 ∷ 8 ∷ 7 ∷ 0 ∷ 0 ∷ 0 ∷ 2 ∷ 8 ∷ 2 ∷ 12 ∷ [])
     ++ headed 0xAA (0x8D ∷ 0xF0 ∷ 1 ∷ 0x41 ∷ 0x8E ∷ 0xF0 ∷ 1 ∷ 0x31 ∷ [])
 
-abbrev at : ℕ → ℕ → ObjectLocation
+abbrev pub at : ℕ → ℕ → ObjectLocation
 at b o = record { block = b; offset = o }
 
-abbrev street : ObjectHeader
+abbrev pub street : ObjectHeader
 street = record { state = Allocated FileMetadata Valid; size = 8; location = at 1 8 }
 
 abbrev read : MetadataObjectHeader
 read = record { object = street; hash = 7; name = at 2 8; cursor = 0 }
 
-movable : Movable chip street (at 0 8) 56 FileMetadata store
+pub movable : Movable chip street (at 0 8) 56 FileMetadata store
 unfolding geometryOk admit readable readAt typeOf markOf marksOf stateIn stateAt sizedAt headerAt payloadOf totalOf
 movable =
     record {
@@ -79,7 +79,7 @@ movable =
       apart = inr (lit≤ tt);
     }
 
-listable-there : Listable chip street (at 0 8) 56 store
+pub listable-there : Listable chip street (at 0 8) 56 store
 unfolding geometryOk admit readable readAt typeOf markOf marksOf stateIn stateAt sizedAt headerAt payloadOf totalOf infoAt nextOf listFrom listing
 listable-there =
     record {

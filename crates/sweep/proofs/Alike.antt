@@ -16,7 +16,7 @@ use Rattle.sweep.specs.Twins.{isTwin, twinsIn}
 
 -- ---- being a twin passes on
 
-both-true : (a b : Bool) → (a && b) ≡ true → (a ≡ true) × (b ≡ true)
+pub both-true : (a b : Bool) → (a && b) ≡ true → (a ≡ true) × (b ≡ true)
 both-true true b e = (refl, e)
 both-true false b e = absurd (false≢true e)
 

@@ -1,8 +1,8 @@
 -- A tour block by block: each object stands in the block that lists it, so what stands in a block is found from that block on.
 use mathlib.Core.Path.{_≡_, refl, sym, ap, _∙_, subst}
 use mathlib.Core.Logic.{_⊎_, inl, inr}
-use mathlib.Core.Bool.{Bool, true, false, false≢true}
-use mathlib.Core.List.{List, _∷_, _++_}
+use mathlib.Core.Bool.{Bool, true, false, _||_, false≢true}
+use mathlib.Core.List.{List, [], _∷_, _++_, append-assoc}
 use Prim.Native.Nat.{ℕ, zero, suc, _+_, _≤_, _<_}
 use native.Mathlib.Omega.{arith}
 use lib.ListN.{length}
@@ -20,11 +20,14 @@ use Rattle.blocks.specs.declared.header.BlockType.{BlockType}
 use Rattle.shown.proofs.Agreeing.{found-at}
 use Rattle.storage.specs.Order.{Tour, tourBy, joined, isFinished, finishedIn, openTour, isOf, tourIf, startVisit, openOf, tourFrom, tour}
 use Rattle.storage.specs.Laws.{All}
+use Rattle.storage.proofs.Lists.{all-append}
 use Rattle.storage.proofs.Order.{tour-end, tour-on}
 use Rattle.storage.proofs.Heads.{Ahead, Before, Sorted, sorted}
 use Rattle.sweep.specs.Lists.{some}
 use Rattle.sweep.specs.Referring.{sameAt}
+use Rattle.sweep.specs.Twins.{before}
 use Rattle.sweep.proofs.Toured.{blockTour}
+use Rattle.sweep.proofs.Alike.{some-append}
 use Rattle.sweep.proofs.Lists.{all-map, some-behind, some-not, other-block}
 
 -- the test whether an object stands at a place
@@ -35,7 +38,7 @@ abbrev pub InBlock : ℕ → ObjectHeader → Type 0
 InBlock b h = h .location .block ≡ b
 
 -- two tours that are joined, and nothing ends them
-joined-done : (a b : Tour) → joined a b .end ≡ done tt → (joined a b .objects ≡ a .objects ++ b .objects) × (b .end ≡ done tt)
+pub joined-done : (a b : Tour) → joined a b .end ≡ done tt → (joined a b .objects ≡ a .objects ++ b .objects) × (b .end ≡ done tt)
 joined-done a b = go (a .end)
   where
     go : (e : Answer (Unit {0})) → tourBy (a .objects) e b .end ≡ done tt → (tourBy (a .objects) e b .objects ≡ a .objects ++ b .objects) × (b .end ≡ done tt)
@@ -77,36 +80,76 @@ module _ (g : Geometry) (img : List ℕ) where
     unfolding openOf
     block-on b h = tour-on g t img (startVisit g b) h
 
-    -- ---- blocks before that of a place do not have it
+    -- ---- the blocks before one
 
-    module _ (l : ObjectLocation) (f : tour g t img .end ≡ done tt) where
-      abbrev stands : Tour → Bool
-      stands x = some (standsAt l) (x .objects)
+    -- what stands in them, and then the tour from there on
+    pub record Passed (b : ℕ) : Type 0 where
+      pub front : List ObjectHeader
+      pub low : All (λ d. d .location .block < b) front
+      pub order : tour g t img .objects ≡ front ++ tourFrom g t (startVisit g b) img .objects
+      pub end : tourFrom g t (startVisit g b) img .end ≡ done tt
 
-      passed-blocks : (b : ℕ) → b ≤ g .count → b ≤ l .block → (stands (tour g t img) ≡ stands (tourFrom g t (startVisit g b) img)) × (tourFrom g t (startVisit g b) img .end ≡ done tt)
-      passed-blocks zero h k = (refl, f)
-      passed-blocks (suc b) h k =
-          let p = passed-blocks b (omega arith) (omega arith) in
+    module _ (f : tour g t img .end ≡ done tt) where
+      pub passed : (b : ℕ) → b ≤ g .count → Passed b
+      passed zero h = record { front = []; low = tt; order = refl; end = f }
+      passed (suc b) h =
+          let p = passed b (omega arith) in
           let j : tourFrom g t (startVisit g b) img ≡ joined (blockTour g t img b) (tourFrom g t (startVisit g (b + 1)) img) = block-on b (omega arith) in
-          let s = joined-done (blockTour g t img b) (tourFrom g t (startVisit g (b + 1)) img) (ap (λ (x : Tour). x .end) (sym j) ∙ p .1) in
-          let y : b + 1 ≡ suc b = omega arith in (
-            p .0 ∙ ap stands j ∙ ap (some (standsAt l)) (s .0)
-                ∙ some-behind (standsAt l) (blockTour g t img b .objects) (tourFrom g t (startVisit g (b + 1)) img .objects) (all-map (InBlock b) (λ d. standsAt l d ≡ false) other (blockTour g t img b .objects) (block-says b))
-                ∙ ap (λ (n : ℕ). stands (tourFrom g t (startVisit g n) img)) y,
-            ap (λ (n : ℕ). tourFrom g t (startVisit g n) img .end) (sym y) ∙ s .1,
-          )
-        where
-          other : (d : ObjectHeader) → InBlock b d → standsAt l d ≡ false
-          other d i = other-block l (d .location) (λ e. omega (arith, i, e))
+          let s = joined-done (blockTour g t img b) (tourFrom g t (startVisit g (b + 1)) img) (ap (λ (x : Tour). x .end) (sym j) ∙ p .end) in
+          let y : b + 1 ≡ suc b = omega arith in
+          record {
+            front = p .front ++ blockTour g t img b .objects;
+            low = all-append (λ d. d .location .block < suc b) (p .front) (blockTour g t img b .objects)
+                (all-map (λ d. d .location .block < b) (λ d. d .location .block < suc b) (λ d k. omega arith) (p .front) (p .low)) (all-map (InBlock b) (λ d. d .location .block < suc b) (λ d k. omega arith) (blockTour g t img b .objects) (block-says b));
+            order =
+                p .order ∙ ap (λ (x : Tour). p .front ++ x .objects) j ∙ ap (λ (hs : List ObjectHeader). p .front ++ hs) (s .0)
+                ∙ sym (append-assoc (p .front) (blockTour g t img b .objects) (tourFrom g t (startVisit g (b + 1)) img .objects))
+                ∙ ap (λ (n : ℕ). (p .front ++ blockTour g t img b .objects) ++ tourFrom g t (startVisit g n) img .objects) y;
+            end = ap (λ (n : ℕ). tourFrom g t (startVisit g n) img .end) (sym y) ∙ s .1;
+          }
 
-      pub from-block : stands (tour g t img) ≡ stands (tourFrom g t (startVisit g (l .block)) img)
-      from-block = go (leb-is (l .block) (g .count))
+      -- no block from the last one on has any
+      past-end : (b : ℕ) → g .count ≤ b → tourFrom g t (startVisit g b) img ≡ tourFrom g t (startVisit g (g .count)) img
+      past-end b h = tour-end g t img (startVisit g b) h ∙ sym (tour-end g t img (startVisit g (g .count)) (omega arith))
+
+      pub passed-any : (b : ℕ) → Passed b
+      passed-any b = go (leb-is b (g .count))
         where
-          go : (l .block ≤ g .count) ⊎ (g .count < l .block) → stands (tour g t img) ≡ stands (tourFrom g t (startVisit g (l .block)) img)
-          go (inl h) = passed-blocks (l .block) h (omega arith) .0
+          go : (b ≤ g .count) ⊎ (g .count < b) → Passed b
+          go (inl h) = passed b h
           go (inr h) =
-              passed-blocks (g .count) (omega arith) (omega arith) .0
-              ∙ ap stands (tour-end g t img (startVisit g (g .count)) (omega arith) ∙ sym (tour-end g t img (startVisit g (l .block)) (omega arith)))
+              let p = passed (g .count) (omega arith) in
+              let e = past-end b (omega arith) in
+              record {
+                front = p .front;
+                low = all-map (λ d. d .location .block < g .count) (λ d. d .location .block < b) (λ d k. omega arith) (p .front) (p .low);
+                order = p .order ∙ ap (λ (x : Tour). p .front ++ x .objects) (sym e);
+                end = ap (λ (x : Tour). x .end) e ∙ p .end;
+              }
+
+      -- what stands at a place is found from its block on
+      pub from-block : (l : ObjectLocation) → some (standsAt l) (tour g t img .objects) ≡ some (standsAt l) (tourFrom g t (startVisit g (l .block)) img .objects)
+      from-block l =
+          let p = passed-any (l .block) in
+          ap (some (standsAt l)) (p .order)
+          ∙ some-behind (standsAt l) (p .front) (tourFrom g t (startVisit g (l .block)) img .objects) (all-map (λ d. d .location .block < l .block) (λ d. standsAt l d ≡ false) (λ d k. other-block l (d .location) (λ e. omega arith)) (p .front) (p .low))
+
+      -- and so is what stands before it, if anywhere
+      pub from-earlier : (q : ObjectHeader → Bool) (l : ObjectLocation) (b : ℕ) → b ≤ l .block → some q (before l (tourFrom g t (startVisit g b) img .objects)) ≡ true
+          → some q (before l (tour g t img .objects)) ≡ true
+      from-earlier q l b h e =
+          let p = passed-any b in
+          ap (λ (hs : List ObjectHeader). some q (before l hs)) (p .order) ∙ ap (some q) (behind (p .front) (p .low))
+          ∙ some-append q (p .front) (before l (tourFrom g t (startVisit g b) img .objects)) ∙ ap (λ (x : Bool). some q (p .front) || x) e ∙ or-true (some q (p .front))
+        where
+          or-true : (x : Bool) → (x || true) ≡ true
+          or-true true = refl
+          or-true false = refl
+
+          behind : (xs : List ObjectHeader) → All (λ d. d .location .block < b) xs
+              → before l (xs ++ tourFrom g t (startVisit g b) img .objects) ≡ xs ++ before l (tourFrom g t (startVisit g b) img .objects)
+          behind [] a = refl
+          behind (x ∷ xs) a = rw (other-block l (x .location) (λ e. omega (arith, a .0))) (ap (λ (hs : List ObjectHeader). x ∷ hs) (behind xs (a .1)))
 
     -- ---- and once one of a later block is met, all are of later ones
 

@@ -19,13 +19,16 @@ use Rattle.objects.specs.declared.header.ObjectHeader.{ObjectHeader}
 use Rattle.objects.specs.Header.{updateState}
 use Rattle.blocks.specs.declared.header.BlockType.the-variants.{Metadata}
 use Rattle.storage.specs.declared.visit.Visitor.{Visitor}
-use Rattle.storage.specs.Order.{Tour, tourFrom, startVisit, behindVisit}
+use Rattle.storage.specs.Order.{Tour, tourFrom, startVisit, behindVisit, tour}
 use Rattle.storage.specs.Laws.{All}
 use Rattle.sweep.specs.Lists.{some}
 use Rattle.sweep.specs.Referring.{metadataIn}
 use Rattle.sweep.specs.Twins.{isTwin, twinsIn, twins, before}
 use Rattle.sweep.specs.Sweep.{deleting, deletingTwins}
+use Rattle.sweep.specs.Slots.{Knows}
 use Rattle.sweep.proofs.Marks.{Marked, marked-by, delete-done}
+use Rattle.sweep.proofs.Toured.{tour-then}
+use Rattle.sweep.proofs.MetKeys.{knows-less, knows-kept}
 use Rattle.sweep.proofs.Kept.{Kept, kept-around, twin-kept}
 use Rattle.sweep.proofs.Alike.{absorbed, some-same, twins-same}
 use Rattle.sweep.proofs.Few.{tour-few}
@@ -52,30 +55,43 @@ module _ (g : Geometry) (f₀ : Fuse) (img₀ : List ℕ) where
   abbrev whole : EndIn Both (Unit {0})
   whole = run f₀ (deletingTwins g) (both img₀ (0 ∷ 0 ∷ []))
 
-  pub record TwinsLeft (img : List ℕ) (v : Visitor) (fuse : Fuse) (n : ℕ) : Type 0 where
+  pub record TwinsLeft (img words : List ℕ) (v : Visitor) (fuse : Fuse) (n : ℕ) (sure : Bool) : Type 0 where
     pub at : At g Metadata v img
     pub long : length img ≡ length img₀
+    pub end : tour g Metadata img .end ≡ done tt
+    pub knows : sure ≡ true → Knows g img words (at .front)
     pub few : n + length (tourFrom g Metadata v img .objects) ≤ 16777216
     pub runs : whole ≡ run fuse (deleting g 0 n (twinsIn (isTwin g img) (at .front) (tourFrom g Metadata v img .objects))) (both img (n ∷ 0 ∷ []))
 
-  pub twins-begin : checkOf g (length img₀) ≡ 0 → AreBytes img₀ → TwinsLeft img₀ (startVisit g 0) f₀ 0
+  pub twins-begin : (words : List ℕ) → checkOf g (length img₀) ≡ 0 → AreBytes img₀ → tour g Metadata img₀ .end ≡ done tt → TwinsLeft img₀ words (startVisit g 0) f₀ 0 true
   unfolding twins
-  twins-begin fine bytes =
+  twins-begin words fine bytes end =
       record {
         at = at-start g Metadata img₀ fine bytes;
         long = refl;
+        end = end;
+        knows = λ _. tt;
         few = omega (arith, tour-few g Metadata img₀ fine);
         runs = twins-start g f₀ img₀ (0 ∷ 0 ∷ []);
       }
 
-  module _ (img : List ℕ) (v : Visitor) (fuse : Fuse) (n : ℕ) (a : TwinsLeft img v fuse n) where
+  module _ (img words : List ℕ) (v : Visitor) (fuse : Fuse) (n : ℕ) (sure : Bool) (a : TwinsLeft img words v fuse n sure) where
     pub twins-finish : tourFrom g Metadata v img .objects ≡ [] → whole ≡ record { answer = done tt; fuse = fuse; state = both img (n ∷ 0 ∷ []) }
     twins-finish e =
         a .runs ∙ ap (λ (hs : List ObjectHeader). run fuse (deleting g 0 n (twinsIn (isTwin g img) (a .at .front) hs)) (both img (n ∷ 0 ∷ []))) e
         ∙ delete-none g 0 n fuse (both img (n ∷ 0 ∷ []))
 
+    -- what is known of those before an object
+    pub twins-known : (h : ObjectHeader) (w : Visitor) → tourFrom g Metadata v img .objects ≡ h ∷ tourFrom g Metadata w img .objects
+        → sure ≡ true → Knows g img words (before (h .location) (metadataIn g img))
+    twins-known h w then z = subst (Knows g img words) (sym (before-is g Metadata v img (a .at) h w then)) (a .knows z)
+
     module _ (h : ObjectHeader) (w : Visitor) (then : tourFrom g Metadata v img .objects ≡ h ∷ tourFrom g Metadata w img .objects) (r : Bool)
-        (q : r ≡ some (isTwin g img h) (before (h .location) (metadataIn g img))) where
+        (q : r ≡ some (isTwin g img h) (before (h .location) (metadataIn g img))) (slots : List ℕ) (still : Bool)
+        (known : still ≡ true → Knows g img slots (before (h .location) (metadataIn g img) ++ h ∷ [])) where
+      knows-then : still ≡ true → Knows g img slots (a .at .front ++ h ∷ [])
+      knows-then z = subst (λ (hs : List ObjectHeader). Knows g img slots (hs ++ h ∷ [])) (before-is g Metadata v img (a .at) h w then) (known z)
+
       has : some (isTwin g img h) (a .at .front) ≡ r
       has = ap (some (isTwin g img h)) (sym (before-is g Metadata v img (a .at) h w then)) ∙ sym q
 
@@ -91,11 +107,13 @@ module _ (g : Geometry) (f₀ : Fuse) (img₀ : List ℕ) where
           ∙ ap (λ (b : Bool). run fuse (deleting g 0 n (pick b (h ∷ rest) rest)) (both img (n ∷ 0 ∷ []))) has
 
       -- none like it before it: it stays
-      pub twins-pass : r ≡ false → TwinsLeft img w fuse n
+      pub twins-pass : r ≡ false → TwinsLeft img slots w fuse n still
       twins-pass z =
           record {
             at = at-on g Metadata v img (a .at) h w then;
             long = a .long;
+            end = a .end;
+            knows = knows-then;
             few = omega (arith, a .few, fewer);
             runs = here ∙ ap (λ (b : Bool). run fuse (deleting g 0 n (pick b (h ∷ rest) rest)) (both img (n ∷ 0 ∷ []))) z;
           }
@@ -122,11 +140,15 @@ module _ (g : Geometry) (f₀ : Fuse) (img₀ : List ℕ) where
           pub twins-fewer : length (tourFrom g Metadata w after .objects) < length (tourFrom g Metadata v img .objects)
           twins-fewer = omega (arith, fewer, ap (λ (u : Tour). length (u .objects)) ahead)
 
-          pub twins-deleted : TwinsLeft after w left (n + 1)
+          pub twins-deleted : TwinsLeft after slots w left (n + 1) still
           twins-deleted =
               record {
                 at = at-deleted g Metadata v img (a .at) h w then behind after marked;
                 long = marked .long ∙ a .long;
+                end =
+                    tour-then g Metadata h img (a .at .fine) (listed g Metadata v img (a .at) h w then) after marked (a .at .front) (tourFrom g Metadata w img .objects) (was g Metadata v img (a .at) h w then) .1
+                    ∙ a .end;
+                knows = λ z. knows-kept g img after slots (a .at .fine) (a .at .front) (kept .0) (knows-less g img slots h (a .at .front) (knows-then z));
                 few = omega (arith, a .few, fewer, ap (λ (u : Tour). length (u .objects)) ahead);
                 runs =
                     its ∙ delete-on g 0 n h rest fuse img after (n ∷ 0 ∷ []) x y e d

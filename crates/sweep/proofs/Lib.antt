@@ -8,6 +8,8 @@ pub mod Blocks
 pub mod Endings
 pub mod Kept
 pub mod Alike
+pub mod Noted
+pub mod MetKeys
 pub mod Few
 pub mod Going
 pub mod Turns

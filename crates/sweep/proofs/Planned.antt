@@ -57,7 +57,7 @@ deletable g t img fine h l =
     one-unit w (suc zero) h e = refl
     one-unit w (suc (suc u)) h e = absurd (omega (arith, suc-mul (suc u) w, suc-mul u w))
 
-all-twins : (P : ObjectHeader → Type 0) (like : ObjectHeader → ObjectHeader → Bool) (bs hs : List ObjectHeader) → All P hs → All P (twinsIn like bs hs)
+pub all-twins : (P : ObjectHeader → Type 0) (like : ObjectHeader → ObjectHeader → Bool) (bs hs : List ObjectHeader) → All P hs → All P (twinsIn like bs hs)
 all-twins P like bs [] a = tt
 all-twins P like bs (h ∷ hs) a = go (some (like h) bs) (all-twins P like (bs ++ h ∷ []) hs (a .1))
   where

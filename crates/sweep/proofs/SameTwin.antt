@@ -19,7 +19,7 @@ use Rattle.sweep.specs.Twins.{typeIn, isTwin}
 use Rattle.sweep.proofs.ReadsKept.{Filled, bytesOf, furtherOf, filled-whole, as-long, in-reach, locations-of, named-of}
 
 -- the second has the bytes that the first has
-second-reads : (x y : Answer (List ℕ)) (bs : List ℕ) → sameBytes x y ≡ true → x ≡ done bs → y ≡ done bs
+pub second-reads : (x y : Answer (List ℕ)) (bs : List ℕ) → sameBytes x y ≡ true → x ≡ done bs → y ≡ done bs
 second-reads (done a) (done b) bs s e = let z : a ≡ bs = cc in ap done (sym (equal-is a b s) ∙ z)
 second-reads (done a) (refused n) bs s e = absurd (false≢true s)
 second-reads (refused n) y bs s e = absurd (false≢true s)

@@ -40,7 +40,7 @@ first-same p q (x ∷ xs) e a = ap₂ (λ (b : Answer Bool) (r : Answer ObjectLo
 
 module _ (named : ObjectHeader → Answer Bool) (h : ObjectHeader) (back : List ObjectHeader) (e : Answer (Unit {0})) where
   -- one that is not it may be left out
-  passed : named h ≡ done false → (xs : List ObjectHeader) → firstNamed named (xs ++ h ∷ back) e ≡ firstNamed named (xs ++ back) e
+  pub passed : named h ≡ done false → (xs : List ObjectHeader) → firstNamed named (xs ++ h ∷ back) e ≡ firstNamed named (xs ++ back) e
   passed n [] = rw n
   passed n (x ∷ xs) = ap (λ (r : Answer ObjectLocation). andThen (named x) (λ yes. pick yes (done (x .location)) r)) (passed n xs)
 

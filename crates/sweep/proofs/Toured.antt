@@ -112,7 +112,7 @@ abbrev pub Left : ObjectHeader → Tour → Tour → Type 0
 Left h a b = (b ≡ a) ⊎ Dropped h a b
 
 -- in what is joined
-left-first : (h : ObjectHeader) (a b c : Tour) → Dropped h a b → Dropped h (joined a c) (joined b c)
+pub left-first : (h : ObjectHeader) (a b c : Tour) → Dropped h a b → Dropped h (joined a c) (joined b c)
 left-first h a b c d = go (a .end) refl
   where
     go : (e : Answer (Unit {0})) → a .end ≡ e → Dropped h (joined a c) (joined b c)

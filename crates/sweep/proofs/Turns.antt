@@ -1,17 +1,22 @@
 -- Deleting, object by object.
-use mathlib.Core.Path.{_≡_, refl, ap, _∙_}
+use mathlib.Core.Path.{_≡_, refl, sym, ap, _∙_}
+use mathlib.Core.Bool.{Bool}
 use mathlib.Core.List.{List, [], _∷_}
 use Prim.Native.Nat.{ℕ, _+_}
 use lib.ListN.{length}
+use lib.Dec.{eqb}
+use borrow.Author.Tests.{eq-eqb, ne-eqb}
 use Rattle.medium.specs.declared.geometry.Geometry.{Geometry}
 use Rattle.medium.specs.declared.fuse.Fuse.{Fuse}
 use Rattle.medium.specs.declared.fuse.Stored.{Stored}
 use Rattle.medium.specs.declared.fuse.Stored.the-variants as stored
+use Rattle.medium.specs.Granularity.{pick}
 use Rattle.medium.specs.Geometry.{checkOf}
 use Rattle.medium.specs.Operation.{EndIn, done, refused, run, endedBy, ended, _>>=_}
 use Rattle.medium.specs.Beside.{Both, both, beside}
 use Rattle.medium.specs.Beside as table
-use Rattle.medium.proofs.Runs.{run-bind, run-ask-in, ask-on, ask-stop, on, stop}
+use Rattle.medium.proofs.Checks.{admit-pass, admit-stop}
+use Rattle.medium.proofs.Runs.{run-bind, run-ask-in, ask-on, ask-stop, test-on, test-stop, on, stop}
 use Rattle.medium.proofs.Beside.{run-fields, image-on, image-stop, length-run}
 use Rattle.objects.specs.declared.state.ObjectState.the-variants as state
 use Rattle.objects.specs.declared.header.ObjectHeader.{ObjectHeader}
@@ -19,7 +24,7 @@ use Rattle.objects.specs.Header.{updateState}
 use Rattle.storage.proofs.Finding.{gate-back}
 use Rattle.sweep.specs.Referring.{sweepable}
 use Rattle.sweep.specs.Twins.{twins, unreferred}
-use Rattle.sweep.specs.Sweep.{Sweeping, countTo, deleting, deletingTwins, deletingUnreferred, sweep}
+use Rattle.sweep.specs.Sweep.{Sweeping, countTo, deleting, deletingTwins, deletingUnreferred, sweep, wordsFit, sweepWith}
 
 module _ (g : Geometry) (which n : ℕ) where
   -- the table with one number more
@@ -56,6 +61,17 @@ unreferred-start g f img t = ask-on f (λ (s : Both). done (unreferred g (s .ima
 
 -- ---- the whole
 
+-- the words that were lent
+module _ (g : Geometry) (room words r : ℕ) (e : r ≡ checkOf g room) where
+  pub fit-stop : (r ≡ 0 → ⊥) → r ≡ wordsFit g room words
+  fit-stop n = admit-stop g room (pick (eqb words room) 0 7) r e n
+
+  pub fit-other : r ≡ 0 → (words ≡ room → ⊥) → 7 ≡ wordsFit g room words
+  fit-other z n = sym (admit-pass g room (pick (eqb words room) 0 7) r e z ∙ ap (λ (b : Bool). pick b 0 7) (ne-eqb words room n))
+
+  pub fit-right : r ≡ 0 → words ≡ room → 0 ≡ wordsFit g room words
+  fit-right z q = sym (admit-pass g room (pick (eqb words room) 0 7) r e z ∙ ap (λ (b : Bool). pick b 0 7) (eq-eqb words room q))
+
 module _ (g : Geometry) (f : Fuse) (img t : List ℕ) where
   pub sweep-stop : (n : ℕ) → sweepable g img ≡ refused n → run f (sweep g) (both img t) ≡ record { answer = refused n; fuse = f; state = both img t }
   unfolding sweep
@@ -72,6 +88,17 @@ module _ (g : Geometry) (f : Fuse) (img t : List ℕ) where
 
       pub twins-cut : {n : ℕ} {left : Fuse} → a ≡ stored.Refused n left → run f (sweep g) (both img t) ≡ record { answer = refused n; fuse = left; state = both after u }
       twins-cut {n} {left} d = sweep-on ∙ stop f (deletingTwins g) (λ _. deletingUnreferred g) (both img t) (both after u) a tt left r d
+
+  -- ---- with words for notes
+
+  module _ (words r : ℕ) (e : r ≡ wordsFit g (length img) words) where
+    pub with-stop : (r ≡ 0 → ⊥) → run f (sweepWith g words) (both img t) ≡ record { answer = refused r; fuse = f; state = both img t }
+    unfolding sweepWith
+    with-stop n = test-stop f (λ (s : Both). wordsFit g (length (s .image)) words) (λ _. sweep g) (both img t) r e n
+
+    pub with-on : r ≡ 0 → run f (sweepWith g words) (both img t) ≡ run f (sweep g) (both img t)
+    unfolding sweepWith
+    with-on z = test-on f (λ (s : Both). wordsFit g (length (s .image)) words) (λ _. sweep g) (both img t) r e z
 
 -- ---- the image keeps its length
 

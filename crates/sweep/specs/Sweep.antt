@@ -3,7 +3,11 @@
 use Prim.Native.Nat.{ℕ, _+_}
 use mathlib.Core.List.{List, [], _∷_}
 use Rattle.medium.specs.declared.geometry.Geometry.{Geometry}
-use Rattle.medium.specs.Operation.{done, OpIn, _>>=_, _>>_, ask, give, putting}
+use lib.ListN.{length, replicate}
+use lib.Dec.{eqb}
+use Rattle.medium.specs.Granularity.{pick}
+use Rattle.medium.specs.Geometry.{admit}
+use Rattle.medium.specs.Operation.{done, OpIn, _>>=_, _>>_, ask, test, give, putting}
 use Rattle.medium.specs.Beside.{beside, onImage, fields}
 use Rattle.objects.specs.declared.state.ObjectState.the-variants as state
 use Rattle.objects.specs.declared.header.ObjectHeader.{ObjectHeader}
@@ -42,3 +46,16 @@ sweep g = do
   ask (λ s. sweepable g (s .image))
   deletingTwins g
   deletingUnreferred g
+
+-- ---- with words lent for notes: one for each byte of the image, else 7 behind 6 and 7. It gives what the sweep gives, and the words come back as 0
+
+abbrev pub wordsFit : Geometry → ℕ → ℕ → ℕ
+wordsFit g room words = admit g room (pick (eqb words room) 0 7)
+
+unfoldable pub sweepWith : Geometry → ℕ → Sweeping (Unit {0})
+sweepWith g words = do
+  test (λ s. wordsFit g (length (s .image)) words)
+  sweep g
+
+abbrev pub wordsAfter : ℕ → List ℕ → List ℕ
+wordsAfter refused ws = pick (eqb refused 0) (replicate (length ws) 0) ws

@@ -1,4 +1,5 @@
 // What is refused before any store: a listing, and metadata that points to nothing.
+use crate::notes;
 use blocks::header::BlockType;
 use medium::fuse::Answered;
 use medium::geometry::Geometry;
@@ -20,7 +21,8 @@ ghost use Rattle.blocks.specs.declared.header.BlockType.the-variants.{Data};
 ghost use Rattle.storage.specs.Order.{tour};
 ghost use Rattle.storage.specs.File.{placesOf};
 ghost use Rattle.sweep.specs.Lists.{every};
-ghost use Rattle.sweep.specs.Referring.{isWhole, isListed, isSound, metadataIn, sweepable};
+ghost use Rattle.sweep.specs.Referring.{isWhole, isListed, isSound, metadataIn, dataIn, sweepable};
+ghost use Rattle.sweep.specs.Notes.{noted, placesIn};
 
 // What ends the walk through the blocks of a type: nothing, or the refusal of a listing.
 fn walk(g: Geometry, image: &[u8], t: BlockType) -> Answered
@@ -56,8 +58,8 @@ fn is_whole(g: Geometry, room: usize, h: ObjectHeader) -> bool
     (n - (4 + location)) % location == 0
 }
 
-// Whether a listed Finalized object stands at a place of a Data block: the walk starts at that block.
-fn is_listed(g: Geometry, image: &[u8], at: ObjectLocation) -> bool
+// Whether a listed Finalized object stands at a place of a Data block, by a walk from that block on.
+fn look_for(g: Geometry, image: &[u8], at: ObjectLocation) -> bool
     requires { ⌜ checkOf g (length (now image)) ≡ 0 ⌝ }
     requires { ⌜ tour g Data (now image) .end ≡ done tt ⌝ }
     ensures { λ r. ⌜ r ≡ isListed g at (now (image .entry)) ⌝ }
@@ -82,10 +84,24 @@ fn is_listed(g: Geometry, image: &[u8], at: ObjectLocation) -> bool
     }
 }
 
-// Whether all of a list's locations are.
-fn are_listed(g: Geometry, image: &[u8], m: MetadataObjectHeader) -> bool
+// The same, by the notes where there are any.
+fn is_listed(g: Geometry, image: &[u8], words: &[u32], at: ObjectLocation) -> bool
     requires { ⌜ checkOf g (length (now image)) ≡ 0 ⌝ }
     requires { ⌜ tour g Data (now image) .end ≡ done tt ⌝ }
+    requires { ⌜ now words ≡ noted g (placesIn (dataIn g (now image))) (length (now words)) ⌝ }
+    ensures { λ r. ⌜ r ≡ isListed g at (now (image .entry)) ⌝ }
+{
+    if words.len() == image.len() {
+        return notes::is_noted(g, words, at);
+    }
+    look_for(g, image, at)
+}
+
+// Whether all of a list's locations are.
+fn are_listed(g: Geometry, image: &[u8], words: &[u32], m: MetadataObjectHeader) -> bool
+    requires { ⌜ checkOf g (length (now image)) ≡ 0 ⌝ }
+    requires { ⌜ tour g Data (now image) .end ≡ done tt ⌝ }
+    requires { ⌜ now words ≡ noted g (placesIn (dataIn g (now image))) (length (now words)) ⌝ }
     ensures { λ r. ⌜ r ≡ every (λ l. isListed g l (now (image .entry))) (placesOf g m (now (image .entry)) .at) ⌝ }
 {
     let mut rest = m;
@@ -94,7 +110,7 @@ fn are_listed(g: Geometry, image: &[u8], m: MetadataObjectHeader) -> bool
         let NextLocation::At(at, next) = x else {
             return true;
         };
-        if is_listed(g, image, at) {
+        if is_listed(g, image, words, at) {
             rest = next;
             continue;
         }
@@ -102,9 +118,10 @@ fn are_listed(g: Geometry, image: &[u8], m: MetadataObjectHeader) -> bool
     }
 }
 
-fn is_sound(g: Geometry, image: &[u8], h: ObjectHeader) -> bool
+fn is_sound(g: Geometry, image: &[u8], words: &[u32], h: ObjectHeader) -> bool
     requires { ⌜ checkOf g (length (now image)) ≡ 0 ⌝ }
     requires { ⌜ tour g Data (now image) .end ≡ done tt ⌝ }
+    requires { ⌜ now words ≡ noted g (placesIn (dataIn g (now image))) (length (now words)) ⌝ }
     ensures { λ r. ⌜ r ≡ isSound g h (now (image .entry)) ⌝ }
 {
     if is_whole(g, image.len(), h) {
@@ -112,17 +129,18 @@ fn is_sound(g: Geometry, image: &[u8], h: ObjectHeader) -> bool
         let MetadataRead::Got(m) = got else {
             return true;
         };
-        if is_listed(g, image, m.name) {
-            return are_listed(g, image, m);
+        if is_listed(g, image, words, m.name) {
+            return are_listed(g, image, words, m);
         }
         return false;
     }
     false
 }
 
-fn are_sound(g: Geometry, image: &[u8]) -> bool
+fn are_sound(g: Geometry, image: &[u8], words: &[u32]) -> bool
     requires { ⌜ checkOf g (length (now image)) ≡ 0 ⌝ }
     requires { ⌜ tour g Data (now image) .end ≡ done tt ⌝ }
+    requires { ⌜ now words ≡ noted g (placesIn (dataIn g (now image))) (length (now words)) ⌝ }
     ensures { λ r. ⌜ r ≡ every (λ h. isSound g h (now (image .entry))) (metadataIn g (now (image .entry))) ⌝ }
 {
     let mut v = Visitor::new(g);
@@ -131,7 +149,7 @@ fn are_sound(g: Geometry, image: &[u8]) -> bool
         let Visited::Object(h, w) = n else {
             return true;
         };
-        if is_sound(g, image, h) {
+        if is_sound(g, image, words, h) {
             v = w;
             continue;
         }
@@ -139,7 +157,25 @@ fn are_sound(g: Geometry, image: &[u8]) -> bool
     }
 }
 
-pub(crate) fn check(g: Geometry, image: &[u8]) -> Answered
+// Notes where the objects of Data blocks stand.
+fn note_data(g: Geometry, image: &[u8], words: &mut [u32])
+    requires { ⌜ checkOf g (length (now image)) ≡ 0 ⌝ }
+    ensures { λ _. ⌜ now (words .exit) ≡ noted g (placesIn (dataIn g (now (image .entry)))) (length (now (words .entry))) ⌝ }
+{
+    notes::clear(words);
+    let mut v = Visitor::new(g);
+    loop {
+        let n = v.next(g, image, BlockType::Data);
+        let Visited::Object(h, w) = n else {
+            return;
+        };
+        notes::note(g, words, h.location);
+        v = w;
+    }
+}
+
+// What a sweep is refused for, or nothing.
+pub(crate) fn check(g: Geometry, image: &[u8], words: &mut [u32]) -> Answered
     ensures { λ r. ⌜ answered r tt ≡ sweepable g (now (image .entry)) ⌝ }
 {
     let bad = medium::geometry::check(g, image.len());
@@ -154,7 +190,8 @@ pub(crate) fn check(g: Geometry, image: &[u8]) -> Answered
     let Answered::Done = d else {
         return d;
     };
-    if are_sound(g, image) {
+    note_data(g, image, words);
+    if are_sound(g, image, words) {
         return Answered::Done;
     }
     Answered::Refused(14)

@@ -1,11 +1,14 @@
 // The sweep: of metadata objects that stand twice the first stays, and what no file refers to is deleted.
 //
 // Metadata objects are the Finalized ones that are listed in Metadata blocks, data and name objects those in Data blocks; other blocks are not
-// looked at. Everything is walked in the order of a lookup, and no memory is needed beside the image.
+// looked at. Everything is walked in the order of a lookup. No memory is needed beside the image; with words that the caller lends for notes it takes
+// less time, and is the same.
 //
 // Always true: what is refused is refused before any store; nothing but delete marks is stored, one unit each.
 mod check;
+mod notes;
 mod refs;
+mod slots;
 mod twins;
 mod unreferred;
 
@@ -17,7 +20,10 @@ ghost use mathlib.Core.Path.{_≡_};
 ghost use mathlib.Core.List.{[], _∷_};
 ghost use Rattle.medium.specs.Operation.{run, ended};
 ghost use Rattle.medium.specs.Beside.{both};
+ghost use lib.ListN.{length};
+ghost use Rattle.medium.specs.declared.fuse.Stored.the-variants.{Refused};
 ghost use Rattle.sweep.specs.Sweep;
+ghost use Rattle.sweep.specs.Sweep.{wordsFit, sweepWith, wordsAfter};
 
 // An answer, with how many twins and how many objects that nothing refers to were deleted before it.
 pub struct Swept {
@@ -26,21 +32,53 @@ pub struct Swept {
     pub unreferred: u32,
 }
 
-pub fn sweep(g: Geometry, image: &mut [u8], f: Fuse) -> Swept
+// What is refused, the twins, and the others. Notes are made where there is a word for each byte of the image.
+fn phases(g: Geometry, image: &mut [u8], f: Fuse, words: &mut [u32]) -> Swept
     ensures { λ r. ⌜ ended (r .answer) (both (now (image .exit)) (r .twins ∷ r .unreferred ∷ [])) ≡ run f (Rattle.sweep.specs.Sweep.sweep g) (both (now (image .entry)) (0 ∷ 0 ∷ [])) ⌝ }
 {
-    let a = check::check(g, image);
+    let a = check::check(g, image, words);
     let Answered::Done = a else {
-        return Swept {
-            answer: Stored::Refused(a.number(), f),
-            twins: 0,
-            unreferred: 0,
-        };
+        return refused(a.number(), f);
     };
-    let t = twins::delete_twins(g, image, f);
+    let t = twins::delete_twins(g, image, f, words);
     let first = t.answer;
     let Stored::Done(left) = first else {
         return t;
     };
-    unreferred::delete_unreferred(g, image, left, t.twins)
+    unreferred::delete_unreferred(g, image, left, words, t.twins)
+}
+
+fn refused(k: u8, f: Fuse) -> Swept
+    ensures { λ r. ⌜ r ≡ record { answer = Refused k f; twins = 0; unreferred = 0 } ⌝ }
+{
+    Swept {
+        answer: Stored::Refused(k, f),
+        twins: 0,
+        unreferred: 0,
+    }
+}
+
+// With no memory but a few words: what was met is searched for again.
+pub fn sweep(g: Geometry, image: &mut [u8], f: Fuse) -> Swept
+    ensures { λ r. ⌜ ended (r .answer) (both (now (image .exit)) (r .twins ∷ r .unreferred ∷ [])) ≡ run f (Rattle.sweep.specs.Sweep.sweep g) (both (now (image .entry)) (0 ∷ 0 ∷ [])) ⌝ }
+{
+    let mut none = [0; 1];
+    phases(g, image, f, &mut none)
+}
+
+// The same, sooner: what was met is noted in the words, of which there is one for each byte of the image.
+pub fn sweep_with(g: Geometry, image: &mut [u8], f: Fuse, words: &mut [u32]) -> Swept
+    ensures { λ r. ⌜ ended (r .answer) (both (now (image .exit)) (r .twins ∷ r .unreferred ∷ [])) ≡ run f (sweepWith g (length (now (words .entry)))) (both (now (image .entry)) (0 ∷ 0 ∷ [])) ⌝ }
+    ensures { λ _. ⌜ now (words .exit) ≡ wordsAfter (wordsFit g (length (now (image .entry))) (length (now (words .entry)))) (now (words .entry)) ⌝ }
+{
+    let bad = medium::geometry::check(g, image.len());
+    if bad != 0 {
+        return refused(bad, f);
+    }
+    if words.len() != image.len() {
+        return refused(7, f);
+    }
+    let s = phases(g, image, f, words);
+    notes::clear(words);
+    s
 }

@@ -17,10 +17,17 @@ ghost use Rattle.medium.specs.Beside.{both};
 ghost use Rattle.sweep.specs.Sweep.{deletingUnreferred};
 
 // With so many twins deleted before them.
-pub(crate) fn delete_unreferred(g: Geometry, image: &mut [u8], f: Fuse, twins: u32) -> Swept
+pub(crate) fn delete_unreferred(
+    g: Geometry,
+    image: &mut [u8],
+    f: Fuse,
+    words: &mut [u32],
+    twins: u32,
+) -> Swept
     requires { ⌜ checkOf g (length (now image)) ≡ 0 ⌝ }
     ensures { λ r. ⌜ ended (r .answer) (both (now (image .exit)) (r .twins ∷ r .unreferred ∷ [])) ≡ run f (deletingUnreferred g) (both (now (image .entry)) (twins ∷ 0 ∷ [])) ⌝ }
 {
+    refs::note_referred(g, image, words);
     let mut v = Visitor::new(g);
     let mut fuse = f;
     let mut n: u32 = 0;
@@ -33,7 +40,7 @@ pub(crate) fn delete_unreferred(g: Geometry, image: &mut [u8], f: Fuse, twins: u
                 unreferred: n,
             };
         };
-        if refs::is_referred(g, image, h.location) {
+        if refs::is_referred(g, image, words, h.location) {
             v = w;
             continue;
         }

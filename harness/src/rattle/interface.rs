@@ -391,4 +391,15 @@ unsafe extern "C" {
         twins: *mut u32,
         unreferred: *mut u32,
     ) -> u8;
+    pub fn stumpchoir_sweep_with(
+        geometry: *const u32,
+        image: *mut u8,
+        image_len: usize,
+        fused: bool,
+        units: *mut u32,
+        twins: *mut u32,
+        unreferred: *mut u32,
+        words: *mut u32,
+        words_len: usize,
+    ) -> u8;
 }

@@ -10,10 +10,10 @@ use Rattle.sweep.proofs.check.are_listed.Statement.{statement}
 use Rattle.sweep.proofs.check.are_listed.Tie as tie
 
 abbrev Inv-loop : tie.InvT-loop
-Inv-loop g image rest₀ rest = every (λ l. isListed g l image) (placesOf g rest₀ image .at) ≡ every (λ l. isListed g l image) (placesOf g rest image .at)
+Inv-loop g image words rest₀ rest = every (λ l. isListed g l image) (placesOf g rest₀ image .at) ≡ every (λ l. isListed g l image) (placesOf g rest image .at)
 
 abbrev μ-loop : tie.MeasureT-loop
-μ-loop g image rest₀ rest = g .size - rest .cursor
+μ-loop g image words rest₀ rest = g .size - rest .cursor
 
 loop-holds : tie.Need-loop-holds Inv-loop μ-loop
 loop-holds c = refl
@@ -25,19 +25,19 @@ enum-known-x : tie.Need-enum-known-x Inv-loop μ-loop
 enum-known-x c = search needs
 
 returns : tie.Need-returns Inv-loop μ-loop
-returns c = sym (c .before .before .loop .inv ∙ every-none _ _ (places-none _ _ (c .before .before .before .before .pre .0) _ (c .before .next-object-location .result) (c .before .next-object-location .ensures) (c .match .keys2)))
+returns c = sym (c .before .before .loop .inv ∙ every-none _ _ (places-none _ _ (c .before .before .before .before .before .pre .0) _ (c .before .next-object-location .result) (c .before .next-object-location .ensures) (c .match .keys2)))
 
 is-listed-requires : tie.Need-is-listed-requires Inv-loop μ-loop
 is-listed-requires c κs = search needs
 
 loop-less : tie.Need-loop-less Inv-loop μ-loop
-loop-less c = places-less _ _ (c .before .before .before .before .before .before .before .before .pre .0) _ _ _ (rw (c .before .before .before .x .given .1) at (c .before .before .before .before .before .next-object-location .ensures))
+loop-less c = places-less _ _ (c .before .before .before .before .before .before .before .before .before .pre .0) _ _ _ (rw (c .before .before .before .x .given .1) at (c .before .before .before .before .before .next-object-location .ensures))
 
 loop-again : tie.Need-loop-again Inv-loop μ-loop
-loop-again c = c .before .before .before .before .before .before .loop .inv ∙ every-on _ _ _ _ (places-on _ _ (c .before .before .before .before .before .before .before .before .pre .0) _ _ _ (rw (c .before .before .before .x .given .1) at (c .before .before .before .before .before .next-object-location .ensures))) _ (c .before .is-listed .ensures) (c .if1 .taken)
+loop-again c = c .before .before .before .before .before .before .loop .inv ∙ every-on _ _ _ _ (places-on _ _ (c .before .before .before .before .before .before .before .before .before .pre .0) _ _ _ (rw (c .before .before .before .x .given .1) at (c .before .before .before .before .before .next-object-location .ensures))) _ (c .before .is-listed .ensures) (c .if1 .taken)
 
 returns-2 : tie.Need-returns-2 Inv-loop μ-loop
-returns-2 c = sym (c .before .before .before .before .before .before .loop .inv ∙ every-not _ _ _ _ (places-on _ _ (c .before .before .before .before .before .before .before .before .pre .0) _ _ _ (rw (c .before .before .before .x .given .1) at (c .before .before .before .before .before .next-object-location .ensures))) _ (c .before .is-listed .ensures) (c .if1 .left))
+returns-2 c = sym (c .before .before .before .before .before .before .loop .inv ∙ every-not _ _ _ _ (places-on _ _ (c .before .before .before .before .before .before .before .before .before .pre .0) _ _ _ (rw (c .before .before .before .x .given .1) at (c .before .before .before .before .before .next-object-location .ensures))) _ (c .before .is-listed .ensures) (c .if1 .left))
 
 pub are-listed-spec : {M : Type 1} → statement M
 are-listed-spec =

@@ -1,62 +1,20 @@
 use borrow.Author.Needs.{needs}
-use mathlib.Core.Path.{_≡_, sym, _∙_}
-use lib.ListN.{length}
-use Rattle.blocks.specs.declared.header.BlockType.the-variants.{Metadata}
-use Rattle.storage.specs.Order.{tourFrom}
-use Rattle.sweep.specs.Lists.{some}
-use Rattle.sweep.specs.Referring.{isAmong, locationsOf}
-use Rattle.sweep.specs.Twins.{isReferred}
-use Rattle.sweep.proofs.Lists.{some-none, some-hit, some-miss}
-use Rattle.sweep.proofs.Walking.{rest-none, rest-on, rest-less}
+use mathlib.Core.Path.{_∙_}
+use Rattle.sweep.proofs.Noted.{referred-noted}
 use Rattle.sweep.proofs.refs.is_referred.Statement.{statement}
 use Rattle.sweep.proofs.refs.is_referred.Tie as tie
 
-abbrev Inv-loop : tie.InvT-loop
-Inv-loop g image at v₀ v = isReferred g image at ≡ some (λ h. isAmong at (locationsOf g h image)) (tourFrom g Metadata v image .objects)
+is-noted-requires : tie.Need-is-noted-requires
+is-noted-requires c κs = search needs
 
-abbrev μ-loop : tie.MeasureT-loop
-μ-loop g image at v₀ v = length (tourFrom g Metadata v image .objects)
+returns : tie.Need-returns
+returns c = c .is-noted .ensures ∙ referred-noted _ _ (c .before .before .before .before .pre .0) _ (c .before .if1 .taken) _ (c .before .before .before .before .pre .1 .0) (c .before .before .before .before .pre .1 .1)
 
-new-requires : tie.Need-new-requires Inv-loop μ-loop
-new-requires c κs = search needs
+look-for-requires : tie.Need-look-for-requires
+look-for-requires c κs = search needs
 
-loop-holds : tie.Need-loop-holds Inv-loop μ-loop
-unfolding isReferred
-loop-holds c = rw (c .new .ensures)
-
-next-requires : tie.Need-next-requires Inv-loop μ-loop
-next-requires c κs = search needs
-
-enum-known-n : tie.Need-enum-known-n Inv-loop μ-loop
-enum-known-n c = search needs
-
-returns : tie.Need-returns Inv-loop μ-loop
-returns c = sym (c .before .before .loop .inv ∙ some-none _ _ (rest-none _ _ _ (c .before .before .before .before .before .pre) _ _ (c .before .next .ensures .1) (c .match .keys2)))
-
-refers-requires : tie.Need-refers-requires Inv-loop μ-loop
-refers-requires c κs = search needs
-
-returns-2 : tie.Need-returns-2 Inv-loop μ-loop
-returns-2 c = sym (c .before .before .before .before .before .before .loop .inv ∙ some-hit _ _ _ _ (rest-on _ _ _ (c .before .before .before .before .before .before .before .before .before .pre) _ _ _ (rw (c .before .before .before .n .given .1) at (c .before .before .before .before .before .next .ensures .1))) _ (c .before .refers .ensures) (c .if1 .taken))
-
-loop-less : tie.Need-loop-less Inv-loop μ-loop
-loop-less c = rest-less _ _ _ (c .before .before .before .before .before .before .before .before .before .pre) _ _ _ (rw (c .before .before .before .n .given .1) at (c .before .before .before .before .before .next .ensures .1))
-
-loop-again : tie.Need-loop-again Inv-loop μ-loop
-loop-again c = c .before .before .before .before .before .before .loop .inv ∙ some-miss _ _ _ _ (rest-on _ _ _ (c .before .before .before .before .before .before .before .before .before .pre) _ _ _ (rw (c .before .before .before .n .given .1) at (c .before .before .before .before .before .next .ensures .1))) _ (c .before .refers .ensures) (c .if1 .left)
+returns-2 : tie.Need-returns-2
+returns-2 c = search needs
 
 pub is-referred-spec : {M : Type 1} → statement M
-is-referred-spec =
-    tie.close
-    (tie.spec
-    Inv-loop
-    μ-loop
-    new-requires
-    loop-holds
-    next-requires
-    enum-known-n
-    returns
-    refers-requires
-    returns-2
-    loop-less
-    loop-again)
+is-referred-spec = tie.close (tie.spec is-noted-requires returns look-for-requires returns-2)

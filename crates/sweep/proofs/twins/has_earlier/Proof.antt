@@ -2,9 +2,8 @@ use borrow.Author.Needs.{needs}
 use mathlib.Core.Path.{_≡_, sym, _∙_}
 use lib.ListN.{length}
 use Rattle.blocks.specs.declared.header.BlockType.the-variants.{Metadata}
-use Rattle.storage.specs.Order.{tourFrom}
+use Rattle.storage.specs.Order.{startVisit, tourFrom}
 use Rattle.sweep.specs.Lists.{some}
-use Rattle.sweep.specs.Referring.{metadataIn}
 use Rattle.sweep.specs.Twins.{isTwin, before}
 use Rattle.sweep.proofs.Lists.{some-none, some-hit, some-miss, before-none, before-here, before-on}
 use Rattle.sweep.proofs.Walking.{rest-none, rest-on, rest-less}
@@ -12,10 +11,10 @@ use Rattle.sweep.proofs.twins.has_earlier.Statement.{statement}
 use Rattle.sweep.proofs.twins.has_earlier.Tie as tie
 
 abbrev Inv-loop : tie.InvT-loop
-Inv-loop g image h v₀ v = some (isTwin g image h) (before (h .location) (metadataIn g image)) ≡ some (isTwin g image h) (before (h .location) (tourFrom g Metadata v image .objects))
+Inv-loop g image h block v₀ v = some (isTwin g image h) (before (h .location) (tourFrom g Metadata (startVisit g block) image .objects)) ≡ some (isTwin g image h) (before (h .location) (tourFrom g Metadata v image .objects))
 
 abbrev μ-loop : tie.MeasureT-loop
-μ-loop g image h v₀ v = length (tourFrom g Metadata v image .objects)
+μ-loop g image h block v₀ v = length (tourFrom g Metadata v image .objects)
 
 new-requires : tie.Need-new-requires Inv-loop μ-loop
 new-requires c κs = search needs

@@ -1,0 +1,10 @@
+pub mod Lists
+pub mod Alike
+pub mod Grown
+pub mod Copied
+pub mod Two
+pub mod Streets
+pub mod Thinned
+pub mod One
+pub mod Theorem
+pub mod Instance
