@@ -1,15 +1,15 @@
 #include "host.h"
 
-#include <errno.h>
 #include <stdio.h>
 #include <string.h>
 
 static const struct verb {
     const char *name, *words;
-    int count;
+    int least, most;
     enum ending (*run)(char **words);
 } verbs[] = {
-    {"streets", "FOLDER", 1, streets},
+    {"streets", "FOLDER", 1, 1, streets},
+    {"sweep", "FOLDER [FILE]", 1, 2, sweep},
 };
 
 static enum ending usage(void)
@@ -20,16 +20,20 @@ static enum ending usage(void)
     return FAILED;
 }
 
+static bool is_meant(const struct verb *verb, int count, char **words)
+{
+    return count >= 2 + verb->least && count <= 2 + verb->most && strcmp(words[1], verb->name) == 0;
+}
+
 int main(int count, char **words)
 {
     enum ending ended;
     size_t i = 0;
-    while (i < sizeof verbs / sizeof *verbs && !(count == 2 + verbs[i].count && strcmp(words[1], verbs[i].name) == 0))
+    while (i < sizeof verbs / sizeof *verbs && !is_meant(&verbs[i], count, words))
         i++;
     if (i == sizeof verbs / sizeof *verbs)
         return usage();
     ended = verbs[i].run(words + 2);
-    if (fflush(stdout) || ferror(stdout))
-        fail("the output cannot be written", strerror(errno));
+    flush_lines();
     return ended;
 }

@@ -15,8 +15,6 @@
 #include <stdlib.h>
 #include <string.h>
 
-/* A size field says less than this, so no name is refused for the buffer's length. Pages that no name reaches are never touched. */
-enum { LONGEST = 1 << 24 };
 static uint8_t name[LONGEST], other[LONGEST];
 
 /* A street, and those that have its name: it is linked to the next of them, and the first knows how many they are and which is the last. */
@@ -26,47 +24,26 @@ struct street {
     struct street *next, *last;
 };
 
-/* A street by a number that equal names share. */
-struct key {
-    uint64_t number;
-    size_t street;
-};
-
 struct list {
+    const struct dump *dump;
     struct street *streets;
-    struct key *keys;
     size_t count, room;
+    struct keys keys;
     bool complete;
 };
 
 /* ---- the walk ---- */
 
-/* FNV-1a */
-static uint64_t number_of(const uint8_t *bytes, size_t len)
-{
-    uint64_t n = UINT64_C(14695981039346656037);
-    size_t i;
-    for (i = 0; i < len; i++)
-        n = (n ^ bytes[i]) * UINT64_C(1099511628211);
-    return n;
-}
-
 static void add(struct list *list, struct stumpchoir_location at, size_t len)
 {
     struct street *new;
-    if (list->count == list->room) {
-        list->room = list->room ? 2 * list->room : 1024;
-        list->streets = more_room(list->streets, list->room, sizeof *list->streets);
-        list->keys = more_room(list->keys, list->room, sizeof *list->keys);
-    }
-    new = &list->streets[list->count];
+    list->streets = room_behind(list->streets, list->count, &list->room, sizeof *list->streets);
+    new = &list->streets[list->count++];
     new->at = at;
     new->len = (uint32_t)len;
     new->times = 1;
     new->next = NULL;
-    list->keys[list->count].number = number_of(name, len);
-    list->keys[list->count].street = list->count;
-    list->count++;
+    add_key(&list->keys, name, len);
 }
 
 static void print_street(const struct dump *d, struct stumpchoir_location at, size_t len)
@@ -82,32 +59,6 @@ static void print_street(const struct dump *d, struct stumpchoir_location at, si
     putchar('\n');
 }
 
-/* The next finished object of a Metadata block from an iterator on, and the iterator behind it; *found is false where there is none. Where a
- * listing is refused the iterator is at that place. */
-static unsigned next_finished(const struct dump *d, struct stumpchoir_iterator *at, bool *found, struct stumpchoir_header *header)
-{
-    struct stumpchoir_block_header block;
-    uint32_t met;
-    unsigned answer;
-    *found = false;
-    for (; at->block < d->geometry.block_count; stumpchoir_iterator_new(&d->geometry, at->block + 1, at)) {
-        answer = stumpchoir_block_header_read(&d->geometry, d->image, d->len, at->block, &block);
-        if (answer != STUMPCHOIR_DONE)
-            return answer;
-        if (block.kind != STUMPCHOIR_KIND_METADATA)
-            continue;
-        do {
-            answer = stumpchoir_iterator_next(&d->geometry, d->image, d->len, at, &met, header);
-            if (answer != STUMPCHOIR_DONE)
-                return answer;
-            *found = met == STUMPCHOIR_FOUND && header->state == STUMPCHOIR_STATE_FINALIZED;
-            if (*found)
-                return STUMPCHOIR_DONE;
-        } while (met == STUMPCHOIR_FOUND);
-    }
-    return STUMPCHOIR_DONE;
-}
-
 /* Says what a walk was refused at, and sets it behind: behind an object, or at the next block. */
 static void step_over(const struct dump *d, unsigned refused, struct stumpchoir_names *names)
 {
@@ -117,7 +68,7 @@ static void step_over(const struct dump *d, unsigned refused, struct stumpchoir_
     unsigned answer;
     at.block = names->block;
     at.offset = names->offset;
-    answer = next_finished(d, &at, &found, &header);
+    answer = next_finished(d, STUMPCHOIR_KIND_METADATA, &at, &found, &header);
     if (answer != STUMPCHOIR_DONE) {
         printf("unlisted %" PRIu32 " %" PRIu32 " refused %u\n", at.block, at.offset, answer);
         stumpchoir_iterator_new(&d->geometry, at.block + 1, &at);
@@ -130,8 +81,9 @@ static void step_over(const struct dump *d, unsigned refused, struct stumpchoir_
     names->offset = at.offset;
 }
 
-static void walk(const struct dump *d, struct list *list)
+static void walk(struct list *list)
 {
+    const struct dump *d = list->dump;
     struct stumpchoir_names names;
     struct stumpchoir_location at;
     uint32_t found = STUMPCHOIR_FOUND;
@@ -152,33 +104,23 @@ static void walk(const struct dump *d, struct list *list)
 
 /* ---- names that stand more than once ---- */
 
-/* The name of a street that was listed, once more: the walk from its place on begins with it. */
+/* The name of a street that was listed, once more. */
 static void read_again(const struct dump *d, const struct street *street, uint8_t *bytes)
 {
-    struct stumpchoir_names names;
-    struct stumpchoir_location at;
-    uint32_t found;
     uint64_t len;
-    names.block = street->at.block;
-    names.offset = street->at.offset;
-    if (stumpchoir_names_next(&d->geometry, d->image, d->len, &names, bytes, LONGEST, &found, &at, &len) != STUMPCHOIR_DONE)
+    if (read_name(d, street->at.block, street->at.offset, bytes, &len) != STUMPCHOIR_DONE)
         fail("a name", "it was listed and cannot be read again");
 }
 
-static int by_number(const void *a, const void *b)
+/* Links a street behind the first of its name. */
+static bool link_to(void *l, size_t earlier, size_t thing)
 {
-    const struct key *x = a, *y = b;
-    if (x->number != y->number)
-        return x->number < y->number ? -1 : 1;
-    return x->street < y->street ? -1 : x->street > y->street;
-}
-
-/* Links a street, whose name is in `name`, behind another of the same name. */
-static bool link_to(const struct dump *d, struct street *first, struct street *street)
-{
+    struct list *list = l;
+    struct street *first = &list->streets[earlier], *street = &list->streets[thing];
     if (!first->times || first->len != street->len)
         return false;
-    read_again(d, first, other);
+    read_again(list->dump, first, other);
+    read_again(list->dump, street, name);
     if (memcmp(name, other, street->len) != 0)
         return false;
     *(first->next ? &first->last->next : &first->next) = street;
@@ -188,26 +130,8 @@ static bool link_to(const struct dump *d, struct street *first, struct street *s
     return true;
 }
 
-/* Links the streets of each name. Only those of one number are compared, and each with the first of a name. */
-static void link_all(const struct dump *d, struct list *list)
-{
-    size_t from, i, j;
-    if (list->count < 2)
-        return;
-    qsort(list->keys, list->count, sizeof *list->keys, by_number);
-    for (from = 0, i = 1; i < list->count; i++) {
-        if (list->keys[i].number != list->keys[from].number) {
-            from = i;
-            continue;
-        }
-        read_again(d, &list->streets[list->keys[i].street], name);
-        for (j = from; j < i && !link_to(d, &list->streets[list->keys[j].street], &list->streets[list->keys[i].street]);)
-            j++;
-    }
-}
-
 /* Prints the names that stand more than once, in the order of their first streets: how many they are. */
-static size_t print_repeated(const struct dump *d, const struct list *list)
+static size_t print_repeated(const struct list *list)
 {
     const struct street *first, *street;
     size_t names = 0, i;
@@ -222,7 +146,7 @@ static size_t print_repeated(const struct dump *d, const struct list *list)
             printf("%" PRIu32 " times ", first->times);
         for (street = first; street; street = street->next)
             printf("%" PRIu32 " %" PRIu32 " ", street->at.block, street->at.offset);
-        read_again(d, first, name);
+        read_again(list->dump, first, name);
         print_bytes(name, first->len);
         putchar('\n');
     }
@@ -232,16 +156,17 @@ static size_t print_repeated(const struct dump *d, const struct list *list)
 enum ending streets(char **words)
 {
     struct dump dump;
-    struct list list = {NULL, NULL, 0, 0, true};
+    struct list list = {&dump, NULL, 0, 0, {NULL, 0, 0}, true};
     size_t repeated;
-    if (read_dump(words[0], &dump) != SAID)
-        return REFUSED;
-    walk(&dump, &list);
-    link_all(&dump, &list);
-    repeated = print_repeated(&dump, &list);
+    unsigned answer = read_dump(words[0], &dump);
+    if (answer != STUMPCHOIR_DONE)
+        return refuse(answer);
+    walk(&list);
+    find_equal(&list.keys, link_to, &list);
+    repeated = print_repeated(&list);
     printf("streets %lu more than once %lu %s\n", (unsigned long)list.count, (unsigned long)repeated, list.complete ? "complete" : "not complete");
     free(list.streets);
-    free(list.keys);
+    free(list.keys.keys);
     free(dump.image);
     return list.complete ? SAID : REFUSED;
 }

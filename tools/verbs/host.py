@@ -2,6 +2,7 @@
 import fcntl
 import glob
 import os
+import select
 import subprocess
 import tempfile
 
@@ -37,20 +38,37 @@ def make():
         program.work(['tools/host-program', '--make'], 'the host program', ('compiling', 'compiled'), 'the first time only')
 
 
-def run(words, write):
-    """Hands on what the program writes, piece by piece, and answers its status. What it says on standard error is a failure."""
+def pieces(pipe, told=None):
+    """What comes through a pipe, piece by piece."""
+    while True:
+        if not select.select([pipe], [], [], told and told.wait())[0]:
+            told.more()
+        elif piece := os.read(pipe.fileno(), 65536):
+            yield piece
+        else:
+            return
+
+
+def run(words, write, long=()):
+    """Hands on what the program writes, piece by piece, and answers its status. What it says on standard error is a failure, but where the
+    input is refused, of which it may say more there. LONG is what to tell of a long run, as for `Told`."""
     make()
     command = [os.path.join(program.ROOT, 'tools', 'host-program'), *words]
+    told = program.Told(*long) if long else None
     with tempfile.TemporaryFile() as message:
         with subprocess.Popen(command, stdin=subprocess.DEVNULL, stdout=subprocess.PIPE, stderr=message) as running:
             try:
-                while piece := running.stdout.read(65536):
+                for piece in pieces(running.stdout, told):
                     write(piece)
             except BaseException:
                 running.kill()
                 raise
         message.seek(0)
         said = message.read().decode(errors='replace').strip()
-    if said or running.returncode not in (0, 2):
+    if running.returncode not in (0, 2) or said and running.returncode == 0:
         raise program.Failed(said or f'the host program ended with status {running.returncode}')
+    if said:
+        program.note(said)
+    elif told:
+        told.done()
     return running.returncode

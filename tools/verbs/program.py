@@ -38,23 +38,42 @@ def levels(name):
     return [[c for c in level if level[c] == n] for n in range(level[name] + 1)]
 
 
+class Told:
+    """Work that may take long, told on standard error: after three seconds, then each minute, and its end where it was told. DOING is what
+    one says while it is done, and then."""
+    FIRST, AGAIN = 3, 60
+
+    def __init__(self, what, doing, place):
+        self.what, self.doing, self.place = what, doing, place
+        self.began, self.told = time.time(), False
+
+    def wait(self):
+        """Seconds until there is more to tell."""
+        return self.AGAIN if self.told else self.FIRST
+
+    def more(self):
+        took = f', {time.time() - self.began:.0f} s so far' if self.told else f' ({self.place})'
+        note(f'{self.doing[0]} {self.what}{took} ..')
+        self.told = True
+
+    def done(self):
+        if self.told:
+            note(f'{self.doing[1]} {self.what} in {time.time() - self.began:.0f} s')
+
+
 def work(command, what, doing, place):
-    """Runs a command of the repository. What it does is told once it takes longer than a look at unchanged files. DOING is what one says
-    while it is done, and then."""
+    """Runs a command of the repository. What it does is told once it takes longer than a look at unchanged files."""
     run = subprocess.Popen(command, cwd=ROOT, stdout=subprocess.PIPE, stderr=subprocess.STDOUT, text=True)
-    began, told = time.time(), False
+    told = Told(what, doing, place)
     while True:
         try:
-            said, _ = run.communicate(timeout=60 if told else 3)
+            said, _ = run.communicate(timeout=told.wait())
             break
         except subprocess.TimeoutExpired:
-            took = f', {time.time() - began:.0f} s so far' if told else f' ({place})'
-            note(f'{doing[0]} {what}{took} ..')
-            told = True
+            told.more()
     if run.returncode:
         raise Failed(f'{what}: not {doing[1]}. The last lines of `{" ".join(command)}`:\n' + '\n'.join(said.splitlines()[-5:]))
-    if told:
-        note(f'{doing[1]} {what} in {time.time() - began:.0f} s')
+    told.done()
 
 
 def check(crates, place):
