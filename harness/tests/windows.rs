@@ -11,6 +11,7 @@ use bench::{
     store::{
         collect, content, create, delete_file_at, lookup, mount, move_data, move_metadata, overwrite, File, Place,
     },
+    sweeps::{self, Said},
     Bench,
 };
 use harness::{geometry::Geometry, op::Op};
@@ -189,6 +190,83 @@ fn the_street_is_deleted() {
         for b in street(granularity) {
             let expected = found(3, &[], &[[1, 2]], &[]);
             assert_eq!(at_each_cut(&b, |b| delete_file_at(b, p.old[0])), expected, "{}", b.side);
+        }
+    }
+}
+
+/// What a sweep makes of each cut of an operation: its answer, and how many twins and unreferred objects it deletes.
+fn swept_at_each_cut(before: &Bench, run: impl Fn(&mut Bench) -> Result<(), u8>) -> Vec<Said> {
+    let mut found = vec![];
+    loop {
+        let mut b = before.clone();
+        b.fuse = Some(found.len() as u32);
+        let ended = run(&mut b);
+        let said: Vec<Said> =
+            sweeps::sides(&sweeps::flash(&b)).iter_mut().map(|side| sweeps::sweep(side, None)).collect();
+        assert!(said.iter().all(|&one| one == said[0]), "{said:?}");
+        found.push(said[0]);
+        if ended.is_ok() {
+            return found;
+        }
+    }
+}
+
+/// So often in a row, from no unit on.
+fn in_a_row(runs: &[(usize, Said)]) -> Vec<Said> {
+    runs.iter().flat_map(|&(times, said)| vec![said; times]).collect()
+}
+
+const NOTHING: Said = (0, 0, 0);
+const ONE_LEFT_OVER: Said = (0, 0, 1);
+const UNLISTED: Said = (2, 0, 0);
+const DANGLING: Said = (14, 0, 0);
+
+/// The last column of AUDIT's table, on bits and on words of one.
+#[test]
+fn what_a_sweep_makes_of_each_cut() {
+    for granularity in [0, 1] {
+        let Places { old, new } = places(granularity);
+        for b in street(granularity) {
+            let moved = swept_at_each_cut(&b, |b| move_metadata(b, old[0], new[0]));
+            assert_eq!(
+                moved,
+                in_a_row(&[(2, NOTHING), (8, UNLISTED), (1, NOTHING), (1, (0, 1, 0)), (1, NOTHING)]),
+                "{}",
+                b.side
+            );
+
+            let moved = swept_at_each_cut(&b, |b| move_data(b, old[0], old[2], new[0], new[1]));
+            let rows =
+                [(2, NOTHING), (12, UNLISTED), (1, ONE_LEFT_OVER), (1, NOTHING), (1, ONE_LEFT_OVER), (1, NOTHING)];
+            assert_eq!(moved, in_a_row(&rows), "{}", b.side);
+
+            let changed = swept_at_each_cut(&b, |b| overwrite(b, file(new, b"2")));
+            let made = [
+                (2, NOTHING),
+                (1, UNLISTED),
+                (1, NOTHING),
+                (2, ONE_LEFT_OVER),
+                (12, UNLISTED),
+                (1, (0, 0, 2)),
+                (1, NOTHING),
+            ];
+            assert_eq!(changed, in_a_row(&[&made[..], &[(2, DANGLING), (1, NOTHING)]].concat()), "{}", b.side);
+
+            let deleted = swept_at_each_cut(&b, |b| delete_file_at(b, old[0]));
+            assert_eq!(deleted, in_a_row(&[(1, NOTHING), (2, DANGLING), (1, NOTHING)]), "{}", b.side);
+        }
+        for b in blocks(granularity, [METADATA, DATA, DATA]) {
+            let made = swept_at_each_cut(&b, |b| create(b, file(old, b"1")));
+            let rows = [
+                (2, NOTHING),
+                (1, UNLISTED),
+                (1, NOTHING),
+                (2, ONE_LEFT_OVER),
+                (12, UNLISTED),
+                (1, (0, 0, 2)),
+                (1, NOTHING),
+            ];
+            assert_eq!(made, in_a_row(&rows), "{}", b.side);
         }
     }
 }

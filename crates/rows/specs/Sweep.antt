@@ -10,22 +10,25 @@ use Rattle.medium.specs.declared.geometry.Geometry.{Geometry}
 use Rattle.medium.specs.declared.fuse.Fuse.{Fuse}
 use Rattle.medium.specs.declared.fuse.Fuse.the-variants.{Absent, Units}
 use Rattle.medium.specs.Geometry.{geometryOk, admit}
-use Rattle.medium.specs.Operation.{_>>=_, ask, test, putting, run}
+use Rattle.medium.specs.Operation.{Answer, done, refused, _>>=_, ask, test, putting, run}
 use Rattle.medium.specs.Medium.{readable, writable, readAt, write}
 use Rattle.medium.specs.Beside.{both, onImage}
 use Rattle.medium.specs.Bench.{blocks, holding, all, same, ends}
+use Rattle.objects.specs.declared.location.ObjectLocation.{ObjectLocation}
 use Rattle.objects.specs.Types.{typeOf, markOf, pairOf, marksOf, stateIn}
 use Rattle.objects.specs.Header.{stateAt, sizedAt, headerAt, payloadSizeOf, payloadOf, marking, setState, updateState}
 use Rattle.objects.specs.Info.{infoAt, totalOf}
 use Rattle.objects.specs.Payload.{payloadReadable, readPayload, equal, samePayload}
+use Rattle.objects.specs.Reader.{readerAt}
 use Rattle.objects.specs.Metadata.{numberAt, locationAt, readMetadata, listable, nextLocation}
 use Rattle.objects.specs.Listing.{nextOf, listFrom}
 use Rattle.blocks.specs.BlockHeader.{padded, marked, blank, kindOfType, namedKind, kindIn, blockHeaderAt}
 use Rattle.storage.specs.Order.{openTour, isOf, openOf, blocksTour, tourFrom}
+use Rattle.storage.specs.Lookup.{sameFrom, isName, isNamed, lookup}
 use Rattle.storage.specs.File.{placesFrom}
 use Rattle.sweep.specs.Referring.{locationsOf, isWhole, isListed, isSound, listings, sweepable}
 use Rattle.sweep.specs.Twins.{isTwin, twins, isReferred, unreferred}
-use Rattle.sweep.specs.Sweep.{deleting, deletingTwins, deletingUnreferred, sweep}
+use Rattle.sweep.specs.Sweep.{deleting, deletingTwins, deletingUnreferred, sweep, wordsFit, sweepWith, wordsAfter}
 
 -- ---- the store: a Metadata block, a Data block, and a third one
 
@@ -157,6 +160,45 @@ listed =
     ∷ refuses (block 0x55 (0x8C ∷ [])) 7
     ∷ []
 
-pub rows : all (firsts ++ apart ++ loose ++ cuts ++ danglings ++ listed) ≡ true
-unfolding geometryOk admit _>>=_ ask test putting run readable writable readAt write onImage typeOf markOf pairOf marksOf stateIn stateAt sizedAt headerAt payloadSizeOf payloadOf marking setState updateState infoAt totalOf payloadReadable readPayload equal samePayload numberAt locationAt readMetadata listable nextLocation nextOf listFrom padded marked blank kindOfType namedKind kindIn blockHeaderAt openTour isOf openOf blocksTour tourFrom placesFrom locationsOf isWhole isListed isSound listings sweepable isTwin twins isReferred unreferred deleting deletingTwins deletingUnreferred sweep
+-- ---- two streets of one name and of other data: a move of the second to the block before them changes which one a lookup finds, cut or not. So what is
+-- promised of a cut move and a sweep (crates/mended) has a condition for the name that was moved
+
+abbrev other : ℕ → List ℕ
+other mark = object 0x8F mark 8 (21 ∷ [])
+
+abbrev placeIn : Answer ObjectLocation → List ℕ
+placeIn (done l) = l .block ∷ l .offset ∷ []
+placeIn (refused n) = n ∷ []
+
+abbrev finds : List ℕ → ℕ → ℕ → Bool
+finds img b o = same (placeIn (lookup chip (0x41 ∷ []) 7 img)) (b ∷ o ∷ [])
+
+abbrev oneName : List Bool
+oneName =
+    finds (store [] allHeld (fileA fin ++ other fin)) 2 8
+    ∷ leaves (store (other fin) allHeld (fileA fin ++ other fin)) 1 1 (store (other fin) (held fin fin del fin) (fileA fin ++ other del))
+    ∷ finds (store (other fin) (held fin fin del fin) (fileA fin ++ other del)) 0 8
+    ∷ []
+
+-- ---- with words for notes it is the same, also at a cut; 7 for one word too few or too many, and for as many bytes as the image has. The words come
+-- back as 0, and where their number was refused as they were
+
+abbrev with : List ℕ → ℕ → Fuse → ℕ → Fuse → ℕ → ℕ → List ℕ → Bool
+with img words f n left ts us after = ends (run f (sweepWith chip words) (both img (0 ∷ 0 ∷ []))) n left (λ s. same (s .image) after && same (s .table) (ts ∷ us ∷ []))
+
+abbrev lent : List Bool
+lent =
+    with twice 192 Absent 0 Absent 2 2 (store (fileA fin ++ fileA del) (held fin fin del del) (fileA del))
+    ∷ with twice 192 (Units 3) 8 (Units 0) 2 1 (store (fileA fin ++ fileA del) (held fin fin del fin) (fileA del))
+    ∷ with (store (object 0x8F fin 9 []) allHeld []) 192 Absent 14 Absent 0 0 (store (object 0x8F fin 9 []) allHeld [])
+    ∷ with twice 191 Absent 7 Absent 0 0 twice
+    ∷ with twice 193 Absent 7 Absent 0 0 twice
+    ∷ with twice 48 Absent 7 Absent 0 0 twice
+    ∷ same (wordsAfter (wordsFit chip 3 3) (5 ∷ 6 ∷ 7 ∷ [])) (5 ∷ 6 ∷ 7 ∷ [])
+    ∷ same (wordsAfter (wordsFit chip 192 3) (5 ∷ 6 ∷ 7 ∷ [])) (5 ∷ 6 ∷ 7 ∷ [])
+    ∷ same (wordsAfter (wordsFit chip 192 192) (5 ∷ 6 ∷ 7 ∷ [])) (0 ∷ 0 ∷ 0 ∷ [])
+    ∷ []
+
+pub rows : all (firsts ++ apart ++ loose ++ cuts ++ danglings ++ listed ++ oneName ++ lent) ≡ true
+unfolding geometryOk admit _>>=_ ask test putting run readable writable readAt write onImage typeOf markOf pairOf marksOf stateIn stateAt sizedAt headerAt payloadSizeOf payloadOf marking setState updateState infoAt totalOf payloadReadable readPayload equal samePayload readerAt numberAt locationAt readMetadata listable nextLocation nextOf listFrom padded marked blank kindOfType namedKind kindIn blockHeaderAt openTour isOf openOf blocksTour tourFrom sameFrom isName isNamed lookup placesFrom locationsOf isWhole isListed isSound listings sweepable isTwin twins isReferred unreferred deleting deletingTwins deletingUnreferred sweep sweepWith
 rows = refl

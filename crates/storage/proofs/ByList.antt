@@ -133,7 +133,7 @@ module _ (g : Geometry) (path : List ℕ) (img : List ℕ) where
       go h t q true r = same-as h bs (known h t q) (eqb-true _ _ r)
       go h t q false r = ap done (sym (other-length bs path (λ z. eqb-false _ _ r (sym (name-long h bs (known h t q)) ∙ z))))
 
-  entry-place : (h : ObjectHeader) (n : ℕ) (x : Entry) → entryOf g h n img ≡ done x → h .location ≡ x .at
+  pub entry-place : (h : ObjectHeader) (n : ℕ) (x : Entry) → entryOf g h n img ≡ done x → h .location ≡ x .at
   unfolding entryOf
   entry-place h n x e =
       let a = and-back (readMetadata g h img) (λ m. andThen (nameOf g h n img) (λ bs. done (record { hash = m .hash; name = bs; at = h .location }))) x e in

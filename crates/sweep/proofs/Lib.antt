@@ -27,4 +27,5 @@ pub mod Marking
 pub mod Chain
 pub mod Planned
 pub mod Changed
+pub mod Listed
 pub mod Theorems

@@ -14,13 +14,14 @@ use Rattle.objects.specs.declared.header.ObjectHeader.{ObjectHeader}
 use Rattle.sweep.specs.Referring.{metadataIn, dataIn, sweepable}
 use Rattle.sweep.specs.Twins.{isTwin, twins, isReferred, unreferred}
 use Rattle.sweep.specs.Sweep.{deleting, deletingTwins, deletingUnreferred, sweep}
-use Rattle.sweep.specs.Laws.{Bytes, leftBy, SameStreets, NoStreetLost, Clean, NoTwinLeft, plan, OnlyMarked, OnlyMarksChange, Resumes, NothingLeft, RefusedStoresNothing}
+use Rattle.sweep.specs.Laws.{Bytes, leftBy, SameStreets, NoStreetLost, Clean, NoTwinLeft, NamesApart, plan, OnlyMarked, OnlyMarksChange, Resumes, NothingLeft, RefusedStoresNothing}
 use Rattle.sweep.proofs.Plans.{no-two, all-pass}
 use Rattle.sweep.proofs.Turns.{sweep-stop, sweep-on, twins-start, unreferred-start, delete-none}
 use Rattle.sweep.proofs.Ready.{Ready, ready-of, ready-ok}
 use Rattle.sweep.proofs.Marking.{marking, marking-append, passing}
 use Rattle.sweep.proofs.Chain.{Cut, cut-at, same-self}
 use Rattle.sweep.proofs.Planned.{planned, behind, passing-split}
+use Rattle.sweep.proofs.Listed.{names-from}
 use Rattle.sweep.proofs.Changed.{changed-by, changed-self, only-more}
 
 module _ (g : Geometry) (img : List ℕ) (b : Bytes img) where
@@ -98,6 +99,10 @@ no-street-lost f g img b = streets g img b f
 pub no-twin-left : NoTwinLeft
 unfolding NoTwinLeft
 no-twin-left g img b e = clean g img b (ready-of g img b e)
+
+pub names-apart : NamesApart
+unfolding NamesApart
+names-apart g img n k names b e l q = record { places = names-from g n (leftBy Absent g img) k names l q; alone = clean g img b (ready-of g img b e) .alone }
 
 pub only-marks-change : OnlyMarksChange
 unfolding OnlyMarksChange

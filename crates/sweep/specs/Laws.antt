@@ -21,9 +21,11 @@ use Rattle.objects.specs.declared.header.ObjectHeader.{ObjectHeader}
 use Rattle.objects.specs.Listing.{Visit, Listing, listing}
 use Rattle.storage.specs.Lookup.{lookup}
 use Rattle.storage.specs.File.{readFile, fileSize}
-use Rattle.storage.specs.Laws.{All}
+use Rattle.storage.specs.Names.{namesFrom}
+use Rattle.storage.specs.Laws.{All, Line, listNames}
 use Rattle.sweep.specs.Referring.{metadataIn, dataIn, sweepable}
 use Rattle.sweep.specs.Twins.{isTwin, twins, isReferred, unreferred}
+use Rattle.sweep.specs.Notes.{placesIn}
 use Rattle.sweep.specs.Sweep.{sweep}
 
 -- an image is bytes
@@ -63,6 +65,21 @@ pub record Clean (g : Geometry) (img : List ℕ) : Type 0 where
 
 unfoldable pub NoTwinLeft : Type 0
 NoTwinLeft = (g : Geometry) (img : List ℕ) → Bytes img → sweepable g img ≡ done tt → Clean g (leftBy Absent g img)
+
+-- so each name that is listed comes from one of these objects, in their order, and no two from identical metadata
+abbrev pub linePlaces : List Line → List ObjectLocation
+linePlaces [] = []
+linePlaces (x ∷ xs) = x .at ∷ linePlaces xs
+
+pub record Apart (g : Geometry) (img : List ℕ) (names : List Line) : Type 0 where
+  pub places : linePlaces names ≡ placesIn (metadataIn g img)
+  pub alone : NoTwo (isTwin g img) (metadataIn g img)
+
+-- of names of up to n bytes, by more calls than there are objects
+unfoldable pub NamesApart : Type 0
+NamesApart =
+    (g : Geometry) (img : List ℕ) (n k : ℕ) (names : List Line) → Bytes img → sweepable g img ≡ done tt → length (metadataIn g (leftBy Absent g img)) < k
+    → listNames k g (namesFrom g) n (leftBy Absent g img) ≡ done names → Apart g (leftBy Absent g img) names
 
 -- ---- only delete marks change
 
