@@ -221,6 +221,10 @@ const ONE_LEFT_OVER: Said = (0, 0, 1);
 const UNLISTED: Said = (2, 0, 0);
 const DANGLING: Said = (14, 0, 0);
 
+/// While a street is made: nothing finished, the name alone, and name and content until the metadata is finished.
+const MADE: [(usize, Said); 7] =
+    [(2, NOTHING), (1, UNLISTED), (1, NOTHING), (2, ONE_LEFT_OVER), (12, UNLISTED), (1, (0, 0, 2)), (1, NOTHING)];
+
 /// The last column of AUDIT's table, on bits and on words of one.
 #[test]
 fn what_a_sweep_makes_of_each_cut() {
@@ -228,12 +232,8 @@ fn what_a_sweep_makes_of_each_cut() {
         let Places { old, new } = places(granularity);
         for b in street(granularity) {
             let moved = swept_at_each_cut(&b, |b| move_metadata(b, old[0], new[0]));
-            assert_eq!(
-                moved,
-                in_a_row(&[(2, NOTHING), (8, UNLISTED), (1, NOTHING), (1, (0, 1, 0)), (1, NOTHING)]),
-                "{}",
-                b.side
-            );
+            let rows = [(2, NOTHING), (8, UNLISTED), (1, NOTHING), (1, (0, 1, 0)), (1, NOTHING)];
+            assert_eq!(moved, in_a_row(&rows), "{}", b.side);
 
             let moved = swept_at_each_cut(&b, |b| move_data(b, old[0], old[2], new[0], new[1]));
             let rows =
@@ -241,32 +241,14 @@ fn what_a_sweep_makes_of_each_cut() {
             assert_eq!(moved, in_a_row(&rows), "{}", b.side);
 
             let changed = swept_at_each_cut(&b, |b| overwrite(b, file(new, b"2")));
-            let made = [
-                (2, NOTHING),
-                (1, UNLISTED),
-                (1, NOTHING),
-                (2, ONE_LEFT_OVER),
-                (12, UNLISTED),
-                (1, (0, 0, 2)),
-                (1, NOTHING),
-            ];
-            assert_eq!(changed, in_a_row(&[&made[..], &[(2, DANGLING), (1, NOTHING)]].concat()), "{}", b.side);
+            assert_eq!(changed, in_a_row(&[&MADE[..], &[(2, DANGLING), (1, NOTHING)]].concat()), "{}", b.side);
 
             let deleted = swept_at_each_cut(&b, |b| delete_file_at(b, old[0]));
             assert_eq!(deleted, in_a_row(&[(1, NOTHING), (2, DANGLING), (1, NOTHING)]), "{}", b.side);
         }
         for b in blocks(granularity, [METADATA, DATA, DATA]) {
             let made = swept_at_each_cut(&b, |b| create(b, file(old, b"1")));
-            let rows = [
-                (2, NOTHING),
-                (1, UNLISTED),
-                (1, NOTHING),
-                (2, ONE_LEFT_OVER),
-                (12, UNLISTED),
-                (1, (0, 0, 2)),
-                (1, NOTHING),
-            ];
-            assert_eq!(made, in_a_row(&rows), "{}", b.side);
+            assert_eq!(made, in_a_row(&MADE), "{}", b.side);
         }
     }
 }

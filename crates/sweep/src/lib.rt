@@ -21,7 +21,6 @@ ghost use mathlib.Core.List.{[], _∷_};
 ghost use Rattle.medium.specs.Operation.{run, ended};
 ghost use Rattle.medium.specs.Beside.{both};
 ghost use lib.ListN.{length};
-ghost use Rattle.medium.specs.declared.fuse.Stored.the-variants.{Refused};
 ghost use Rattle.sweep.specs.Sweep;
 ghost use Rattle.sweep.specs.Sweep.{wordsFit, sweepWith, wordsAfter};
 
@@ -38,7 +37,7 @@ fn phases(g: Geometry, image: &mut [u8], f: Fuse, words: &mut [u32]) -> Swept
 {
     let a = check::check(g, image, words);
     let Answered::Done = a else {
-        return refused(a.number(), f);
+        return ended_with(Stored::Refused(a.number(), f), 0, 0);
     };
     let t = twins::delete_twins(g, image, f, words);
     let first = t.answer;
@@ -48,13 +47,14 @@ fn phases(g: Geometry, image: &mut [u8], f: Fuse, words: &mut [u32]) -> Swept
     unreferred::delete_unreferred(g, image, left, words, t.twins)
 }
 
-fn refused(k: u8, f: Fuse) -> Swept
-    ensures { λ r. ⌜ r ≡ record { answer = Refused k f; twins = 0; unreferred = 0 } ⌝ }
+// How it ended, and how many were deleted.
+pub(crate) fn ended_with(answer: Stored, twins: u32, unreferred: u32) -> Swept
+    ensures { λ r. ⌜ r ≡ record { answer = answer; twins = twins; unreferred = unreferred } ⌝ }
 {
     Swept {
-        answer: Stored::Refused(k, f),
-        twins: 0,
-        unreferred: 0,
+        answer: answer,
+        twins: twins,
+        unreferred: unreferred,
     }
 }
 
@@ -73,10 +73,10 @@ pub fn sweep_with(g: Geometry, image: &mut [u8], f: Fuse, words: &mut [u32]) -> 
 {
     let bad = medium::geometry::check(g, image.len());
     if bad != 0 {
-        return refused(bad, f);
+        return ended_with(Stored::Refused(bad, f), 0, 0);
     }
     if words.len() != image.len() {
-        return refused(7, f);
+        return ended_with(Stored::Refused(7, f), 0, 0);
     }
     let s = phases(g, image, f, words);
     notes::clear(words);

@@ -111,7 +111,7 @@ fn judge(g: Geometry, image: &[u8], words: &mut [u32], sure: bool, h: ObjectHead
             sure: sure,
         },
         Slot::Full => Judged {
-            twin: has_like(g, image, h, 0),
+            twin: has_earlier(g, image, h, 0),
             sure: false,
         },
         Slot::Free(_) => {
@@ -122,7 +122,7 @@ fn judge(g: Geometry, image: &[u8], words: &mut [u32], sure: bool, h: ObjectHead
                 };
             }
             Judged {
-                twin: has_like(g, image, h, 0),
+                twin: has_earlier(g, image, h, 0),
                 sure: false,
             }
         }
@@ -143,11 +143,7 @@ pub(crate) fn delete_twins(g: Geometry, image: &mut [u8], f: Fuse, words: &mut [
     loop {
         let x = v.next(g, image, BlockType::Metadata);
         let Visited::Object(h, w) = x else {
-            return Swept {
-                answer: Stored::Done(fuse),
-                twins: n,
-                unreferred: 0,
-            };
+            return crate::ended_with(Stored::Done(fuse), n, 0);
         };
         let j = judge(g, image, words, sure, h);
         sure = j.sure;
@@ -155,11 +151,7 @@ pub(crate) fn delete_twins(g: Geometry, image: &mut [u8], f: Fuse, words: &mut [
             let d = h.update_state(g, image, fuse, ObjectState::Deleted);
             let a = d.answer;
             let Stored::Done(left) = a else {
-                return Swept {
-                    answer: a,
-                    twins: n,
-                    unreferred: 0,
-                };
+                return crate::ended_with(a, n, 0);
             };
             fuse = left;
             n += 1;

@@ -34,11 +34,7 @@ pub(crate) fn delete_unreferred(
     loop {
         let x = v.next(g, image, BlockType::Data);
         let Visited::Object(h, w) = x else {
-            return Swept {
-                answer: Stored::Done(fuse),
-                twins: twins,
-                unreferred: n,
-            };
+            return crate::ended_with(Stored::Done(fuse), twins, n);
         };
         if refs::is_referred(g, image, words, h.location) {
             v = w;
@@ -47,11 +43,7 @@ pub(crate) fn delete_unreferred(
         let d = h.update_state(g, image, fuse, ObjectState::Deleted);
         let a = d.answer;
         let Stored::Done(left) = a else {
-            return Swept {
-                answer: a,
-                twins: twins,
-                unreferred: n,
-            };
+            return crate::ended_with(a, twins, n);
         };
         fuse = left;
         n += 1;

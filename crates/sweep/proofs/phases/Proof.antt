@@ -18,8 +18,8 @@ enum-told-2 c = search needs
 number-requires : tie.Need-number-requires
 number-requires c κs = search needs
 
-refused-requires : tie.Need-refused-requires
-refused-requires c κs = search needs
+ended-with-requires : tie.Need-ended-with-requires
+ended-with-requires c κs = search needs
 
 same-length : tie.Need-same-length
 same-length c = search needs
@@ -28,7 +28,7 @@ same-length-2 : tie.Need-same-length-2
 same-length-2 c = search needs
 
 returns : tie.Need-returns
-returns c = rw (c .refused .ensures, c .before .number .ensures, c .before .before .enum-told2 .given .1) (sym (sweep-stop _ _ _ _ _ (sym (rw (c .before .before .enum-told2 .given .1) at (c .before .before .before .before .before .before .check .ensures)))))
+returns c = rw (c .ended-with .ensures, c .before .number .ensures, c .before .before .enum-told2 .given .1) (sym (sweep-stop _ _ _ _ _ (sym (rw (c .before .before .enum-told2 .given .1) at (c .before .before .before .before .before .before .check .ensures)))))
 
 delete-twins-requires : tie.Need-delete-twins-requires
 delete-twins-requires c κs = let r = ready-of _ _ (λ j. c .before .before .before .before .before .before .before .before .before .before .slice-known .given j .fits) (sym (rw (c .before .before .enum-told .given .1) at (c .before .before .before .before .before .before .check .ensures))) in (r .fine, r .metadata-end)
@@ -68,7 +68,7 @@ phases-spec =
     enum-told
     enum-told-2
     number-requires
-    refused-requires
+    ended-with-requires
     same-length
     same-length-2
     returns

@@ -11,21 +11,21 @@ use Rattle.sweep.proofs.sweep_with.Tie as tie
 check-requires : tie.Need-check-requires
 check-requires c κs = search needs
 
-refused-requires : tie.Need-refused-requires
-refused-requires c κs = search needs
+ended-with-requires : tie.Need-ended-with-requires
+ended-with-requires c κs = search needs
 
 returns : tie.Need-returns
 returns c =
     let e = fit-stop _ _ (length (c .before .before .before .before .before .args .words .now)) _ (c .before .before .check .ensures) (c .before .if1 .taken) in
-    (rw (c .refused .ensures) (sym (with-stop _ _ _ _ _ _ e (c .before .if1 .taken))), rw (← e, ne-eqb _ _ (c .before .if1 .taken)))
+    (rw (c .ended-with .ensures) (sym (with-stop _ _ _ _ _ _ e (c .before .if1 .taken))), rw (← e, ne-eqb _ _ (c .before .if1 .taken)))
 
-refused-requires-2 : tie.Need-refused-requires-2
-refused-requires-2 c κs = search needs
+ended-with-requires-2 : tie.Need-ended-with-requires-2
+ended-with-requires-2 c κs = search needs
 
 returns-2 : tie.Need-returns-2
 returns-2 c =
     let e = fit-other (c .before .before .before .before .before .before .args .g) (length (c .before .before .before .before .before .before .args .image .now)) (length (c .before .before .before .before .before .before .args .words .now)) _ (c .before .before .before .check .ensures) (c .before .before .if1 .left) (c .before .if2 .taken) in
-    (rw (c .refused2 .ensures) (sym (with-stop _ _ _ _ _ _ e (λ z. omega arith))), rw (← e))
+    (rw (c .ended-with2 .ensures) (sym (with-stop _ _ _ _ _ _ e (λ z. omega arith))), rw (← e))
 
 phases-requires : tie.Need-phases-requires
 phases-requires c κs = search needs
@@ -49,9 +49,9 @@ sweep-with-spec =
     tie.close
     (tie.spec
     check-requires
-    refused-requires
+    ended-with-requires
     returns
-    refused-requires-2
+    ended-with-requires-2
     returns-2
     phases-requires
     clear-requires

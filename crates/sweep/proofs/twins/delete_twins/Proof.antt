@@ -31,14 +31,17 @@ next-requires c κs = search needs
 enum-known-x : tie.Need-enum-known-x Inv-loop μ-loop
 enum-known-x c = search needs
 
+ended-with-requires : tie.Need-ended-with-requires Inv-loop μ-loop
+ended-with-requires c κs = search needs
+
 same-length : tie.Need-same-length Inv-loop μ-loop
-same-length c = c .before .before .before .loop .inv .0 .long
+same-length c = c .before .before .before .before .loop .inv .0 .long
 
 same-length-2 : tie.Need-same-length-2 Inv-loop μ-loop
 same-length-2 c = search needs
 
 returns : tie.Need-returns Inv-loop μ-loop
-returns c = (sym (twins-finish _ _ _ _ _ _ _ _ _ (c .before .before .before .loop .inv .0) (rest-none _ _ _ (c .before .before .before .loop .inv .0 .at .fine) _ _ (c .before .next .ensures .1) (c .match .keys2))), refl)
+returns c = rw (c .ended-with .ensures) (sym (twins-finish _ _ _ _ _ _ _ _ _ (c .before .before .before .before .loop .inv .0) (rest-none _ _ _ (c .before .before .before .before .loop .inv .0 .at .fine) _ _ (c .before .before .next .ensures .1) (c .before .match .keys2))), refl)
 
 judge-requires : tie.Need-judge-requires Inv-loop μ-loop
 judge-requires c κs = (c .before .before .before .before .before .before .before .loop .inv .0 .at .fine, (c .before .before .before .before .before .before .before .loop .inv .0 .end, twins-known _ _ _ _ _ _ _ _ _ (c .before .before .before .before .before .before .before .loop .inv .0) _ _ (rest-on _ _ _ (c .before .before .before .before .before .before .before .loop .inv .0 .at .fine) _ _ _ (rw (c .before .before .before .x .given .1) at (c .before .before .before .before .before .next .ensures .1)))))
@@ -52,14 +55,17 @@ enum-known-a c = search needs
 enum-told : tie.Need-enum-told Inv-loop μ-loop
 enum-told c = search needs
 
+ended-with-requires-2 : tie.Need-ended-with-requires-2 Inv-loop μ-loop
+ended-with-requires-2 c κs = search needs
+
 same-length-3 : tie.Need-same-length-3 Inv-loop μ-loop
-same-length-3 c = c .before .before .before .before .update-state .kept .1 .1 .0 ∙ c .before .before .before .before .before .before .before .before .before .before .before .before .before .before .before .before .before .loop .inv .0 .long
+same-length-3 c = c .before .before .before .before .before .update-state .kept .1 .1 .0 ∙ c .before .before .before .before .before .before .before .before .before .before .before .before .before .before .before .before .before .before .loop .inv .0 .long
 
 same-length-4 : tie.Need-same-length-4 Inv-loop μ-loop
-same-length-4 c = c .before .before .before .before .before .before .before .before .before .judge .kept .1 .1 .0 ∙ c .before .before .before .before .before .before .before .before .before .before .before .before .before .before .before .before .before .loop .inv .1 ∙ c .before .before .before .before .before .before .before .before .before .before .before .before .before .before .before .before .before .before .before .before .before .clear .kept .0
+same-length-4 c = c .before .before .before .before .before .before .before .before .before .before .judge .kept .1 .1 .0 ∙ c .before .before .before .before .before .before .before .before .before .before .before .before .before .before .before .before .before .before .loop .inv .1 ∙ c .before .before .before .before .before .before .before .before .before .before .before .before .before .before .before .before .before .before .before .before .before .before .clear .kept .0
 
 returns-2 : tie.Need-returns-2 Inv-loop μ-loop
-returns-2 c = (rw (c .enum-told .given .1) (sym (twins-stop _ _ _ _ _ _ _ _ _ (c .before .before .before .before .before .before .before .before .before .before .before .before .before .before .before .before .before .loop .inv .0) _ _ (rest-on _ _ _ (c .before .before .before .before .before .before .before .before .before .before .before .before .before .before .before .before .before .loop .inv .0 .at .fine) _ _ _ (rw (c .before .before .before .before .before .before .before .before .before .before .before .before .before .x .given .1) at (c .before .before .before .before .before .before .before .before .before .before .before .before .before .before .before .next .ensures .1))) _ (c .before .before .before .before .before .before .before .before .before .judge .ensures .0) _ _ (c .before .before .before .before .before .before .before .before .before .judge .ensures .1) (c .before .before .before .before .before .before .if1 .taken) _ _ _ (c .before .before .before .before .update-state .ensures .0) (c .enum-told .given .1))), refl)
+returns-2 c = rw (c .ended-with2 .ensures) (rw (c .before .enum-told .given .1) (sym (twins-stop _ _ _ _ _ _ _ _ _ (c .before .before .before .before .before .before .before .before .before .before .before .before .before .before .before .before .before .before .loop .inv .0) _ _ (rest-on _ _ _ (c .before .before .before .before .before .before .before .before .before .before .before .before .before .before .before .before .before .before .loop .inv .0 .at .fine) _ _ _ (rw (c .before .before .before .before .before .before .before .before .before .before .before .before .before .before .x .given .1) at (c .before .before .before .before .before .before .before .before .before .before .before .before .before .before .before .before .next .ensures .1))) _ (c .before .before .before .before .before .before .before .before .before .before .judge .ensures .0) _ _ (c .before .before .before .before .before .before .before .before .before .before .judge .ensures .1) (c .before .before .before .before .before .before .before .if1 .taken) _ _ _ (c .before .before .before .before .before .update-state .ensures .0) (c .before .enum-told .given .1))), refl)
 
 add-n : tie.Need-add-n Inv-loop μ-loop
 add-n c = omega (arith, c .before .before .before .before .before .before .before .before .before .before .before .before .before .before .before .before .before .before .loop .inv .0 .few)
@@ -87,6 +93,7 @@ delete-twins-spec =
     loop-holds
     next-requires
     enum-known-x
+    ended-with-requires
     same-length
     same-length-2
     returns
@@ -94,6 +101,7 @@ delete-twins-spec =
     update-state-requires
     enum-known-a
     enum-told
+    ended-with-requires-2
     same-length-3
     same-length-4
     returns-2

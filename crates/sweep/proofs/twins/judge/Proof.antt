@@ -26,8 +26,8 @@ has-like-requires c κs = search needs
 enum-told : tie.Need-enum-told
 enum-told c = search needs
 
-has-like-requires-2 : tie.Need-has-like-requires-2
-has-like-requires-2 c κs = search needs
+has-earlier-requires : tie.Need-has-earlier-requires
+has-earlier-requires c κs = search needs
 
 enum-told-2 : tie.Need-enum-told-2
 enum-told-2 c = search needs
@@ -42,8 +42,8 @@ returns c =
     let k = c .before .before .before .before .before .before .before .before .before .before .before .before .pre .1 .1 (c .if1 .taken) in
     (sym (none-like _ _ _ _ _ e (before (c .before .before .before .before .before .before .before .before .before .before .before .before .args .h .location) (metadataIn (c .before .before .before .before .before .before .before .before .before .before .before .before .args .g) (c .before .before .before .before .before .before .before .before .before .before .before .before .args .image .now))) k _ f), λ _. rw (c .before .before .before .before .before .meet .ensures .1, f) (knows-now _ _ _ _ _ e (before (c .before .before .before .before .before .before .before .before .before .before .before .before .args .h .location) (metadataIn (c .before .before .before .before .before .before .before .before .before .before .before .before .args .g) (c .before .before .before .before .before .before .before .before .before .before .before .before .args .image .now))) k _ _ f))
 
-has-like-requires-3 : tie.Need-has-like-requires-3
-has-like-requires-3 c κs = search needs
+has-earlier-requires-2 : tie.Need-has-earlier-requires-2
+has-earlier-requires-2 c κs = search needs
 
 same-length-2 : tie.Need-same-length-2
 same-length-2 c = search needs
@@ -58,13 +58,13 @@ same-length-3 : tie.Need-same-length-3
 same-length-3 c = search needs
 
 returns-3 : tie.Need-returns-3
-returns-3 c = (c .has-like2 .ensures, λ q. absurd (false≢true q))
+returns-3 c = (c .has-earlier .ensures, λ q. absurd (false≢true q))
 
 same-length-4 : tie.Need-same-length-4
 same-length-4 c = search needs
 
 returns-4 : tie.Need-returns-4
-returns-4 c = (c .has-like3 .ensures, λ q. absurd (false≢true q))
+returns-4 c = (c .has-earlier2 .ensures, λ q. absurd (false≢true q))
 
 pub judge-spec : {M : Type 1} → statement M
 judge-spec =
@@ -76,11 +76,11 @@ judge-spec =
     enum-known-slot
     has-like-requires
     enum-told
-    has-like-requires-2
+    has-earlier-requires
     enum-told-2
     same-length
     returns
-    has-like-requires-3
+    has-earlier-requires-2
     same-length-2
     returns-2
     same-length-3

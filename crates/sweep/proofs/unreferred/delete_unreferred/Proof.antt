@@ -33,14 +33,17 @@ next-requires c κs = search needs
 enum-known-x : tie.Need-enum-known-x Inv-loop μ-loop
 enum-known-x c = search needs
 
+ended-with-requires : tie.Need-ended-with-requires Inv-loop μ-loop
+ended-with-requires c κs = search needs
+
 same-length : tie.Need-same-length Inv-loop μ-loop
-same-length c = c .before .before .before .loop .inv .long
+same-length c = c .before .before .before .before .loop .inv .long
 
 same-length-2 : tie.Need-same-length-2 Inv-loop μ-loop
 same-length-2 c = search needs
 
 returns : tie.Need-returns Inv-loop μ-loop
-returns c = sym (unreferred-finish _ _ _ _ _ _ _ _ _ (c .before .before .before .loop .inv) (rest-none _ _ _ (c .before .before .before .loop .inv .at .fine) _ _ (c .before .next .ensures .1) (c .match .keys2)))
+returns c = rw (c .ended-with .ensures) (sym (unreferred-finish _ _ _ _ _ _ _ _ _ (c .before .before .before .before .loop .inv) (rest-none _ _ _ (c .before .before .before .before .loop .inv .at .fine) _ _ (c .before .before .next .ensures .1) (c .before .match .keys2))))
 
 is-referred-requires : tie.Need-is-referred-requires Inv-loop μ-loop
 is-referred-requires c κs = (c .before .before .before .before .before .before .before .loop .inv .at .fine, (unreferred-inside _ _ _ _ _ _ _ _ _ (c .before .before .before .before .before .before .before .loop .inv) _ _ (rest-on _ _ _ (c .before .before .before .before .before .before .before .loop .inv .at .fine) _ _ _ (rw (c .before .before .before .x .given .1) at (c .before .before .before .before .before .next .ensures .1))), c .before .before .before .before .before .before .before .loop .inv .notes))
@@ -60,14 +63,17 @@ enum-known-a c = search needs
 enum-told : tie.Need-enum-told Inv-loop μ-loop
 enum-told c = search needs
 
+ended-with-requires-2 : tie.Need-ended-with-requires-2 Inv-loop μ-loop
+ended-with-requires-2 c κs = search needs
+
 same-length-3 : tie.Need-same-length-3 Inv-loop μ-loop
-same-length-3 c = c .before .before .before .before .update-state .kept .1 .1 .0 ∙ c .before .before .before .before .before .before .before .before .before .before .before .before .before .before .before .loop .inv .long
+same-length-3 c = c .before .before .before .before .before .update-state .kept .1 .1 .0 ∙ c .before .before .before .before .before .before .before .before .before .before .before .before .before .before .before .before .loop .inv .long
 
 same-length-4 : tie.Need-same-length-4 Inv-loop μ-loop
-same-length-4 c = c .before .before .before .before .before .before .before .before .before .before .before .before .before .before .before .before .before .before .before .note-referred .kept .1 .1 .0
+same-length-4 c = c .before .before .before .before .before .before .before .before .before .before .before .before .before .before .before .before .before .before .before .before .note-referred .kept .1 .1 .0
 
 returns-2 : tie.Need-returns-2 Inv-loop μ-loop
-returns-2 c = rw (c .enum-told .given .1) (sym (unreferred-stop _ _ _ _ _ _ _ _ _ (c .before .before .before .before .before .before .before .before .before .before .before .before .before .before .before .loop .inv) _ _ (rest-on _ _ _ (c .before .before .before .before .before .before .before .before .before .before .before .before .before .before .before .loop .inv .at .fine) _ _ _ (rw (c .before .before .before .before .before .before .before .before .before .before .before .x .given .1) at (c .before .before .before .before .before .before .before .before .before .before .before .before .before .next .ensures .1))) _ (c .before .before .before .before .before .before .before .is-referred .ensures) (c .before .before .before .before .before .before .if1 .left) _ _ _ (c .before .before .before .before .update-state .ensures .0) (c .enum-told .given .1)))
+returns-2 c = rw (c .ended-with2 .ensures, c .before .enum-told .given .1) (sym (unreferred-stop _ _ _ _ _ _ _ _ _ (c .before .before .before .before .before .before .before .before .before .before .before .before .before .before .before .before .loop .inv) _ _ (rest-on _ _ _ (c .before .before .before .before .before .before .before .before .before .before .before .before .before .before .before .before .loop .inv .at .fine) _ _ _ (rw (c .before .before .before .before .before .before .before .before .before .before .before .before .x .given .1) at (c .before .before .before .before .before .before .before .before .before .before .before .before .before .before .next .ensures .1))) _ (c .before .before .before .before .before .before .before .before .is-referred .ensures) (c .before .before .before .before .before .before .before .if1 .left) _ _ _ (c .before .before .before .before .before .update-state .ensures .0) (c .before .enum-told .given .1)))
 
 add-n : tie.Need-add-n Inv-loop μ-loop
 add-n c = omega (arith, c .before .before .before .before .before .before .before .before .before .before .before .before .before .before .before .before .loop .inv .few)
@@ -89,6 +95,7 @@ delete-unreferred-spec =
     loop-holds
     next-requires
     enum-known-x
+    ended-with-requires
     same-length
     same-length-2
     returns
@@ -98,6 +105,7 @@ delete-unreferred-spec =
     update-state-requires
     enum-known-a
     enum-told
+    ended-with-requires-2
     same-length-3
     same-length-4
     returns-2
