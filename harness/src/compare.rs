@@ -45,7 +45,7 @@ pub fn judge(case: &Case) -> Judged {
 /// Plants a fault in the library's outcome, to show that the harness finds, shrinks and reports one: a stored byte of
 /// a write that is longer than five bytes, or of a block's or the collector's function, comes out wrong; of a batch, the
 /// count where a record behind the second is refused; a lookup of more than 16 bytes does not find what it cannot read; a
-/// sweep does not count the second twin.
+/// sweep does not count the second twin, and with words lent it leaves a note of it.
 pub fn plant(case: &Case, judged: &mut Judged) {
     let mut wrong = judged.model.clone();
     if case.op.signature().layer == Layer::Batch {
@@ -55,8 +55,11 @@ pub fn plant(case: &Case, judged: &mut Judged) {
         judged.library = Some(wrong);
         return;
     }
-    if case.op == Op::Sweep && wrong.values[0] >= 2 {
-        wrong.values[0] -= 1;
+    if case.op.signature().layer == Layer::Sweep && wrong.values[0] >= 2 {
+        match wrong.array.last_mut() {
+            Some(word) => *word = 1,
+            None => wrong.values[0] -= 1,
+        }
         judged.library = Some(wrong);
         return;
     }

@@ -37,6 +37,7 @@ fn candidates(case: &Case) -> Vec<Case> {
     geometry(case, &mut all);
     fuse(case, &mut all);
     records(case, &mut all);
+    words(case, &mut all);
     bytes(case, &mut all);
     numbers(case, &mut all);
     image(case, &mut all);
@@ -46,7 +47,8 @@ fn candidates(case: &Case) -> Vec<Case> {
 /// Fewer or smaller blocks, smaller widths.
 fn geometry(case: &Case, all: &mut Vec<Case>) {
     let g = case.geometry;
-    let table = case.op.signature().array == Shape::Table;
+    let shape = case.op.signature().array;
+    let words = shape == Shape::Words && case.array.len() == case.image.len();
     let whole = case.op.signature().place == Place::Nothing || case.image.len() == g.room();
     if g.count > 1 && g.room() <= 1 << 24 && whole {
         let mut fewer = case.clone();
@@ -54,8 +56,11 @@ fn geometry(case: &Case, all: &mut Vec<Case>) {
         if case.has_image() {
             fewer.image.truncate(fewer.geometry.room());
         }
-        if table {
+        if shape == Shape::Table {
             fewer.array.truncate(4 * fewer.geometry.count as usize);
+        }
+        if words {
+            fewer.array.truncate(fewer.image.len());
         }
         all.push(fewer);
     }
@@ -65,6 +70,9 @@ fn geometry(case: &Case, all: &mut Vec<Case>) {
             smaller.geometry.size = size;
             let blocks = case.image.chunks(g.size as usize);
             smaller.image = blocks.flat_map(|block| block[..size as usize].to_vec()).collect();
+            if words {
+                smaller.array.truncate(smaller.image.len());
+            }
             all.push(smaller);
         }
     }
@@ -115,6 +123,27 @@ fn records(case: &Case, all: &mut Vec<Case>) {
     }
 }
 
+/// Runs of words set to 0, from long to short; fewer of them where their number is wrong anyway.
+fn words(case: &Case, all: &mut Vec<Case>) {
+    let len = case.array.len();
+    if case.op.signature().array != Shape::Words {
+        return;
+    }
+    if len != case.image.len() {
+        for fewer in smaller(len as u32) {
+            all.push(with(case, |c| c.array.truncate(fewer as usize)));
+        }
+    }
+    for run in [len, len / 4, len / 32, 1].into_iter().filter(|&run| run > 0) {
+        for at in (0..len).step_by(run) {
+            let end = (at + run).min(len);
+            if case.array[at..end].iter().any(|&word| word != 0) {
+                all.push(with(case, |c| c.array[at..end].fill(0)));
+            }
+        }
+    }
+}
+
 fn bytes(case: &Case, all: &mut Vec<Case>) {
     let len = case.bytes.len();
     for shorter in smaller(len as u32) {
@@ -130,6 +159,9 @@ fn numbers(case: &Case, all: &mut Vec<Case>) {
         for less in smaller(case.args[i]) {
             all.push(with(case, |c| c.args[i] = less));
         }
+    }
+    if case.op.signature().array == Shape::Words {
+        return;
     }
     for i in 0..case.array.len() {
         for less in smaller(case.array[i]) {

@@ -83,7 +83,7 @@ impl Tally {
         if case.op.signature().layer == Layer::Batch {
             self.batches.entry(done(judged.model.values[0])).or_default()[answer] += 1;
         }
-        if case.op == Op::Sweep {
+        if case.op.signature().layer == Layer::Sweep {
             self.sweeps.entry(deleted(&judged.model.values)).or_default()[answer] += 1;
         }
         match (judged.scope, &judged.library) {

@@ -44,6 +44,7 @@ fn random_cases_agree() {
         (Op::FileRead, &[0, 2, 3, 6, 7, 9]),
         (Op::NamesNext, &[0, 2, 3, 6, 7]),
         (Op::Sweep, &[0, 2, 6, 7, 8, 14]),
+        (Op::SweepWith, &[0, 2, 6, 7, 8, 14]),
     ];
     for (op, numbers) in by_name {
         let counts = tally.of(op);
@@ -139,16 +140,20 @@ fn a_planted_fault_of_a_sweep_is_made_small() {
     for block in [0, 2] {
         store.put(block, TYPES[0], &payload(g, 9, file.name_at, &file.data)).unwrap();
     }
-    let case = Case { fuse: Some(3), image: store.flash.image, ..Case::of(Op::Sweep, g) };
     let bad = |case: &Case| {
         let mut judged = judge(case);
         plant(case, &mut judged);
         judged.difference(case).is_some()
     };
-    assert!(bad(&case), "{}", judge(&case).show(&case));
-    let small = shrink(&case, &bad);
-    assert!(bad(&small));
-    assert_eq!((small.geometry.size, small.geometry.count, small.fuse), (128, 3, None), "{}", small.line());
+    let words: Vec<u32> = (1..=g.room() as u32).collect();
+    for (op, array) in [(Op::Sweep, vec![]), (Op::SweepWith, words)] {
+        let case = Case { fuse: Some(3), array, image: store.flash.image.clone(), ..Case::of(op, g) };
+        assert!(bad(&case), "{}", judge(&case).show(&case));
+        let small = shrink(&case, &bad);
+        assert!(bad(&small));
+        assert_eq!((small.geometry.size, small.geometry.count, small.fuse), (128, 3, None), "{}", small.line());
+        assert!(small.array.iter().all(|&word| word == 0), "{}", small.line());
+    }
 }
 
 /// Runs the program, by the runner that HARNESS_RUNNER names where this machine is of another kind.

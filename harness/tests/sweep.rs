@@ -3,8 +3,8 @@
 mod bench;
 
 use bench::{
-    named::{agreed, empty, HASH},
-    sweeps::Said,
+    named::{empty, HASH},
+    sweeps::{alike, notes, Said},
 };
 use harness::{
     case::Case,
@@ -17,9 +17,20 @@ use harness::{
         header::{DELETED, FINALIZED, TYPES},
         layout, Flash,
     },
+    op::Op,
+    outcome::Outcome,
 };
 
 const GRANULARITIES: [u8; 3] = [0, 1, 4];
+
+/// The outcome of a sweep, where it is the same on all sides, and also with words lent.
+fn agreed(case: &Case) -> Outcome {
+    let words = notes(case.image.len());
+    let outcome = bench::named::agreed(case);
+    let lent = bench::named::agreed(&Case { op: Op::SweepWith, array: words.clone(), ..case.clone() });
+    alike(&outcome, &lent, &words);
+    outcome
+}
 
 /// Sweeps the store, and gives what was said; after a refusal nothing may be stored.
 fn swept(flash: &mut Flash) -> Said {
@@ -275,5 +286,35 @@ fn twins_go_before_what_nothing_refers_to() {
             let flash = Flash::new(store.flash.geometry, cut.image, None);
             assert_eq!([twin, left].map(|at| state(&flash, at)), states);
         }
+    }
+}
+
+#[test]
+fn another_number_of_words_is_refused_behind_geometry_and_image_and_before_all_else() {
+    for granularity in GRANULARITIES {
+        let (mut store, file) = one_file(granularity);
+        let g = store.flash.geometry;
+        store.put(2, TYPES[0], &whole(&store, &file)).unwrap();
+        let mut broken = store.flash.clone();
+        poke(&mut broken, [0, 0], layout::block_header_len(g) as u32, 0x8C);
+        for many in [0, 1, g.room() / 4, g.room() - 1, g.room() + 1, 2 * g.room()] {
+            let lent = |case: Case| Case { op: Op::SweepWith, array: notes(many), ..case };
+            let short = Case { image: vec![0xFF; g.room() - 1], ..case(&store.flash) };
+            let bad = harness::geometry::Geometry { s: 0, ..g };
+            for (case, answer) in [
+                (case(&store.flash), 7),
+                (Case { fuse: Some(0), ..case(&store.flash) }, 7),
+                (case(&broken), 7),
+                (short.clone(), 7),
+                (Case { geometry: bad, ..short }, 6),
+                (Case { geometry: bad, ..case(&store.flash) }, 6),
+            ] {
+                let case = lent(case);
+                let outcome = bench::named::agreed(&case);
+                assert_eq!((outcome.answer, &outcome.values[..]), (answer, &[0, 0][..]), "{many} words");
+                assert!((outcome.image, outcome.array, outcome.fuse) == (case.image, case.array, case.fuse), "{many}");
+            }
+        }
+        assert_eq!((swept(&mut broken).0, said(&store)), (2, (0, 1, 0)));
     }
 }

@@ -1,23 +1,25 @@
 //! Random stores swept, on each side that has a sweep, cut after every mark: what is deleted and what a lookup and a read say;
-//! that a second run ends as the uncut one, wherever it is cut itself; and what a sweep leaves of a cut move.
+//! that a second run ends as the uncut one, wherever it is cut itself; and what a sweep leaves of a cut move. Each sweep is made
+//! without and with words lent; larger stores at a few fuses.
 
 mod bench;
 
 use bench::{
-    named::{lookup, read, size},
+    named::{lookup, read, size, HASH},
     sweeps::{flash, left_over, mark, over, place, sides, sweep},
     Bench,
 };
 use harness::{
     cases::{
         images::spots,
-        stores::Place,
+        stores::{payload, Place, Store},
         sweep::{bytes, geometry, listed, store, whole},
     },
+    geometry::Geometry,
     model::{
         blocks::{DATA, METADATA},
-        header::{DELETED, FINALIZED},
-        Flash,
+        header::{DELETED, FINALIZED, TYPES},
+        layout, Flash,
     },
     random::Random,
 };
@@ -273,4 +275,82 @@ fn the_stores_have_what_a_sweep_is_for() {
         }
     });
     assert!(met.iter().all(|&met| met > 20), "{met:?}");
+}
+
+/// A larger store that is being made, with what stands in it.
+struct Large {
+    store: Store,
+    data: Vec<Place>,
+    metadata: Vec<Vec<u8>>,
+}
+
+impl Large {
+    /// Files of two hashes until nearly all blocks are full, every third of them Data.
+    fn new(r: &mut Random, g: Geometry) -> Large {
+        let kinds: Vec<u32> = (0..g.count).map(|block| if block % 3 == 1 { DATA } else { METADATA }).collect();
+        let mut large = Large { store: Store::of(g, &kinds), data: vec![], metadata: vec![] };
+        let mut refused = 0;
+        while refused < 100 {
+            large.add_data(r);
+            let (ty, payload) = large.next(r);
+            let block = r.below(g.count) / 3 * 3 + r.pick(&[0, 2]);
+            match large.store.put(block.min(g.count - 1), ty, &payload) {
+                Some(_) => large.metadata.push(payload),
+                None => refused += 1,
+            }
+        }
+        large
+    }
+
+    /// One object or two of a name or of data.
+    fn add_data(&mut self, r: &mut Random) {
+        for _ in 0..r.between(1, 2) {
+            let (block, len) = (r.below(self.store.flash.geometry.count / 3) * 3 + 1, r.between(1, 6) as usize);
+            let payload = r.bytes(len);
+            self.data.extend(self.store.put(block, r.pick(&TYPES[1..]), &payload));
+        }
+    }
+
+    /// Half of the metadata stands already: some is a twin, some has another type or lacks the last location.
+    fn next(&self, r: &mut Random) -> (u32, Vec<u8>) {
+        let g = self.store.flash.geometry;
+        let location = layout::location_len(g) as usize;
+        if self.metadata.is_empty() || r.one_in(2) {
+            let data: Vec<Place> = (0..r.below(4)).map(|_| r.pick(&self.data)).collect();
+            return (TYPES[0], payload(g, r.pick(&[7, HASH]), r.pick(&self.data), &data));
+        }
+        let old = &self.metadata[r.below(self.metadata.len() as u32) as usize];
+        match r.below(4) {
+            0 => (TYPES[1], old.clone()),
+            1 if old.len() > 4 + location => (TYPES[0], old[..old.len() - location].to_vec()),
+            _ => (TYPES[0], old.clone()),
+        }
+    }
+}
+
+#[test]
+fn larger_stores_with_many_twins_far_apart_end_alike() {
+    let mut r = Random::new(9);
+    for (size, count) in [(1_024, 12), (2_048, 9), (4_096, 6)] {
+        for (granularity, s) in [(0, 2), (1, 3), (4, 2)] {
+            let g = Geometry { granularity, s, c: r.between(1, 3) as u8, size, count };
+            let before = Large::new(&mut r, g).store.flash;
+            let (twins, unreferred) = left_over(&before);
+            let metadata = listed(&before, METADATA).len();
+            assert!(metadata > 200 && twins.len() > 50 && unreferred.len() > 3, "{metadata} {twins:?} {unreferred:?}");
+            let (twins, unreferred) = (twins.len() as u64, unreferred.len() as u64);
+            let (marks, sides) = (twins + unreferred, sides(&before));
+            for fuse in [0, twins / 2, twins, marks - 1, marks] {
+                let done = fuse.min(twins);
+                let said = (if fuse < marks { 8 } else { 0 }, done, fuse - done);
+                let images = sides.iter().map(|bench| {
+                    let mut bench = bench.clone();
+                    assert_eq!(sweep(&mut bench, Some(fuse as u32)), said, "{}", bench.side);
+                    bench.image
+                });
+                let images: Vec<Vec<u8>> = images.collect();
+                assert!(images.iter().all(|image| *image == images[0]), "{g:?}, {fuse} of {marks}");
+            }
+        }
+    }
 }

@@ -53,7 +53,7 @@ impl Source {
 
     /// Gives the case a fuse, or puts it in line once for every fuse from 0 to one past its last unit, as each sweep.
     fn fuse(&mut self, mut case: Case) -> Case {
-        let every = case.op == Op::Sweep;
+        let every = case.op.signature().layer == Layer::Sweep;
         if !case.op.stores() || (!every && self.random.one_in(3)) {
             return case;
         }
@@ -73,6 +73,13 @@ impl Source {
         });
         case
     }
+
+    /// With a fuse, and now and then wrong in what is tested first.
+    fn finish(&mut self, made: Case) -> Case {
+        let mut case = self.fuse(made);
+        spoil::spoil(&mut self.random, &mut case);
+        case
+    }
 }
 
 impl Iterator for Source {
@@ -83,9 +90,12 @@ impl Iterator for Source {
             return Some(case);
         }
         let made = self.make();
-        let mut case = self.fuse(made);
-        spoil::spoil(&mut self.random, &mut case);
-        Some(case)
+        if made.op == Op::Sweep {
+            let lent = sweep::lent(&mut self.random, &made);
+            let lent = self.finish(lent);
+            self.waiting.push_back(lent);
+        }
+        Some(self.finish(made))
     }
 }
 

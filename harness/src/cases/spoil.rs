@@ -53,6 +53,10 @@ fn room(r: &mut Random, case: &mut Case) {
         let len = case.array.len();
         let wrong = r.pick(&[len - 1, len + 1, len - 4, len + 4, 0, len / 2]);
         case.array.resize(wrong, 0);
+    } else if shape == Shape::Words && r.one_in(2) {
+        let len = case.array.len();
+        let wrong = r.pick(&[len - 1, len + 1, 0, len / 4, 2 * len]);
+        case.array.resize(wrong, 0xA5A5_A5A5);
     } else if case.op.signature().place != Place::Nothing {
         let (len, size) = (case.image.len(), case.geometry.size as usize);
         let wrong = r.pick(&[len - 1, len + 1, 0, len + size.min(70_000), len - size.min(len), len / 2, len + 4]);

@@ -1,5 +1,5 @@
 //! Random sweeps: files, twins, near-twins and what is left over, in blocks of every kind; half of the stores are wrong in a
-//! place or two.
+//! place or two. Each store is swept without and with words lent.
 
 use super::{
     images, numbers,
@@ -27,6 +27,22 @@ pub fn make(r: &mut Random) -> Case {
 
 pub fn case(flash: &Flash) -> Case {
     Case { image: flash.image.clone(), ..Case::of(Op::Sweep, flash.geometry) }
+}
+
+/// The same sweep with words lent, one for each byte of the image.
+pub fn lent(r: &mut Random, case: &Case) -> Case {
+    Case { op: Op::SweepWith, array: words(r, case.image.len()), ..case.clone() }
+}
+
+/// Mostly not 0: any numbers, places in the image, or one number everywhere.
+pub fn words(r: &mut Random, many: usize) -> Vec<u32> {
+    let (kind, all) = (r.below(4), r.pick(&[1, 0x100, 0x7FFF_FFFF, u32::MAX, 0]));
+    let word = |_| match kind {
+        0 => all,
+        1 => r.below(many as u32 + 2),
+        _ => (r.number() >> 32) as u32,
+    };
+    (0..many).map(word).collect()
 }
 
 const SIZES: [(u32, u32); 14] = [

@@ -72,12 +72,13 @@ fn batch(case: &Case, after: &mut Outcome) -> Answer<()> {
     answer
 }
 
-/// Both numbers of objects deleted are told also after a refusal.
+/// Both numbers of objects deleted are told also after a refusal. Words that are lent come back as 0.
 fn sweep(case: &Case, after: &mut Outcome) -> Answer<()> {
     let mut flash = Flash::new(case.geometry, std::mem::take(&mut after.image), case.fuse);
     let (mut twins, mut unreferred) = (0, 0);
     let answer = flash.sweep(&mut twins, &mut unreferred);
     after.values = vec![twins, unreferred];
+    after.array.fill(0);
     after.image = flash.image;
     after.fuse = flash.fuse;
     answer

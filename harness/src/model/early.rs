@@ -36,18 +36,20 @@ pub fn refuse(case: &Case) -> Answer<()> {
     }
 }
 
-/// A table has a record a block, a batch at most 64; all others have the length that their shape says.
+/// A table has a record a block, a batch at most 64, and there is a word for each byte of the image; all others have the length
+/// that their shape says.
 fn possible_len(g: Geometry, shape: Shape, len: u64) -> bool {
     match shape {
         Shape::Table => len == 4 * g.count as u64,
         Shape::Batch => len <= 4 * MOST_RECORDS && len % 4 == 0,
+        Shape::Words => len == g.room() as u64,
         _ => true,
     }
 }
 
 fn possible_array(g: Geometry, shape: Shape, n: &[u32]) -> bool {
     match shape {
-        Shape::None | Shape::Iterator | Shape::Batch => true,
+        Shape::None | Shape::Iterator | Shape::Batch | Shape::Words => true,
         Shape::Header => possible_header(n),
         Shape::Writer => possible_header(n) && possible_writer(g, n),
         Shape::Reader => possible_header(n) && n[5] <= CURSOR_LIMIT,

@@ -11,6 +11,7 @@ use harness::{
         layout, Flash,
     },
     op::Op,
+    outcome::Outcome,
 };
 
 use super::{benches, Bench};
@@ -29,10 +30,25 @@ pub fn over(bench: &Bench, flash: &Flash) -> Bench {
     Bench { image: flash.image.clone(), ..bench.clone() }
 }
 
-/// Sweeps with so many units, or with power. A mark is a unit, and no other is taken.
+/// Words to be lent: none of them is 0.
+pub fn notes(many: usize) -> Vec<u32> {
+    (0..many as u32).map(|i| i.wrapping_mul(0x9E37_79B1) | 1).collect()
+}
+
+/// Where words were lent all else is as without them, and they come back as 0, but after 6 and 7 as they were.
+pub fn alike(without: &Outcome, with: &Outcome, words: &[u32]) {
+    let after = if matches!(without.answer, 6 | 7) { words.to_vec() } else { vec![0; words.len()] };
+    let expected = Outcome { array: after, known: words.len(), ..without.clone() };
+    assert!(*with == expected, "with words lent: {} and {:?}, without {:?}", with.answer, with.values, without.values);
+}
+
+/// Sweeps with so many units, or with power, without and with words lent. A mark is a unit, and no other is taken.
 pub fn sweep(bench: &mut Bench, fuse: Option<u32>) -> Said {
     bench.fuse = fuse;
+    let words = notes(bench.image.len());
+    let lent = bench.clone().call(Op::SweepWith, &[], &words, &[]).expect("this side has a sweep");
     let outcome = bench.call(Op::Sweep, &[], &[], &[]).expect("this side has a sweep");
+    alike(&outcome, &lent, &words);
     let [twins, unreferred] = outcome.values[..] else { panic!("two values") };
     assert_eq!(outcome.fuse, fuse.map(|units| units - (twins + unreferred) as u32), "{}", bench.side);
     bench.fuse = None;

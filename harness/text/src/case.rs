@@ -1,7 +1,7 @@
 //! A case: everything that one call is handed, and its form as one line of text.
 //!
 //! `g=0/1/1/64x1 f=3 writer_write n=- a=142,1,255,0,8,0,0,0,0,0,0,0 b=414243 i=ba0144aa.00*4.ff*56`:
-//! granularity/s/c/block size x count, fuse, function, single numbers, array, table or batch, lent bytes, image.
+//! granularity/s/c/block size x count, fuse, function, single numbers, array, table, batch or words, lent bytes, image.
 
 use crate::{
     geometry::Geometry,
@@ -16,7 +16,7 @@ pub struct Case {
     pub op: Op,
     /// single numbers, in the C function's order
     pub args: Vec<u32>,
-    /// header, writer, reader, metadata, iterator, record, table or batch
+    /// header, writer, reader, metadata, iterator, record, table, batch or words
     pub array: Vec<u32>,
     /// source, or the buffer's bytes before the call
     pub bytes: Vec<u8>,

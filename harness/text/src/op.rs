@@ -44,6 +44,8 @@ pub enum Shape {
     Table,
     /// any length: four numbers a record of a batch, at most 64 of them when it is right; only read
     Batch,
+    /// any length: a number a byte of the image when it is right
+    Words,
 }
 
 impl Shape {
@@ -56,7 +58,7 @@ impl Shape {
             Shape::Metadata => Some(9),
             Shape::Iterator => Some(2),
             Shape::Record => Some(4),
-            Shape::Table | Shape::Batch => None,
+            Shape::Table | Shape::Batch | Shape::Words => None,
         }
     }
 }
@@ -191,6 +193,7 @@ ops! {
     NamesNext "names_next" Storage Image [] Iterator Buffer &[W, W, W, Q];
 
     Sweep "sweep" Sweep Store [] None None &[Always, Always];
+    SweepWith "sweep_with" Sweep Store [] Words None &[Always, Always];
 }
 
 impl Op {

@@ -79,10 +79,14 @@ pub fn difference(case: &Case, one: &Outcome, other: &Outcome, text: bool) -> Op
     }
     let signature = case.op.signature();
     let shape = signature.array;
-    let lent = matches!(shape, Shape::Table | Shape::Batch);
+    let lent = matches!(shape, Shape::Table | Shape::Batch | Shape::Words);
     let values_count = one.done() || !text;
     if (values_count || lent) && arrays_differ(shape, one, other) {
-        return Some(if shape == Shape::Table { "table" } else { "array" });
+        return Some(match shape {
+            Shape::Table => "table",
+            Shape::Words => "words",
+            _ => "array",
+        });
     }
     if (values_count || signature.tells_always()) && values_differ(case, one, other) {
         return Some("values");

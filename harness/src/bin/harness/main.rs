@@ -5,7 +5,7 @@ mod inspector;
 mod lists;
 mod moves;
 mod options;
-#[cfg(any(all(feature = "batch", feature = "writer"), feature = "storage"))]
+#[cfg(any(all(feature = "batch", feature = "writer"), feature = "storage", feature = "sweep"))]
 mod speed;
 
 use std::process::ExitCode;
@@ -20,7 +20,7 @@ fn main() -> ExitCode {
         "replay" => lists::replay(&o),
         "record" => lists::record(&o),
         "recorded" => lists::recorded(&o),
-        #[cfg(any(all(feature = "batch", feature = "writer"), feature = "storage"))]
+        #[cfg(any(all(feature = "batch", feature = "writer"), feature = "storage", feature = "sweep"))]
         "speed" => speed::run(&o),
         _ => Err(options::USAGE.to_string()),
     });

@@ -14,7 +14,8 @@ harness inspector [--cases N] [--seed S] PROGRAM ..   the program's lines on N i
 harness replay   'LINE' ..                     one case on all three sides
 harness record   [--layer ..] [--cases N] [--seed S] --out FILE     the text's answers as a list
 harness recorded FILE ..                       a recorded list on library and model
-harness speed    [--cases N]                   a batch against its records, lookup against the Rust's; the median of N rounds";
+harness speed    [--layer batch|storage|sweep|all] [--cases N]   a batch against its records, lookup against the Rust's, sweeps without
+                 and with words; the median of N rounds";
 
 const SEED: u64 = 20_260_415;
 

@@ -4,8 +4,12 @@
 mod batch;
 #[cfg(feature = "storage")]
 mod storage;
+#[cfg(feature = "sweep")]
+mod sweep;
 
 use std::time::{Duration, Instant};
+
+use harness::op::Layer;
 
 use crate::options::Options;
 
@@ -18,10 +22,17 @@ pub fn run(o: &Options) -> Result<(), String> {
         println!("run by {runner}, so the times are not those of a chip; the ratio is a hint\n");
     }
     let rounds = o.cases.unwrap_or(ROUNDS).max(1);
-    #[cfg(all(feature = "batch", feature = "writer"))]
-    batch::rows(rounds)?;
-    #[cfg(feature = "storage")]
-    storage::rows(rounds)?;
+    for layer in &o.layers {
+        match layer {
+            #[cfg(all(feature = "batch", feature = "writer"))]
+            Layer::Batch => batch::rows(rounds)?,
+            #[cfg(feature = "storage")]
+            Layer::Storage => storage::rows(rounds)?,
+            #[cfg(feature = "sweep")]
+            Layer::Sweep => sweep::rows(rounds)?,
+            _ => {}
+        }
+    }
     Ok(())
 }
 

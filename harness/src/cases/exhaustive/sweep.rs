@@ -1,5 +1,6 @@
 //! Sweeps: every row of four metadata objects, every place of a location, every size, state and byte of a small store, blocks
-//! of every kind, what a cut move leaves, and what is refused first.
+//! of every kind, what a cut move leaves, and what is refused first; each without and with words lent. Then every number of
+//! words.
 
 use super::{every_fuse, Visit, GRANULARITIES};
 use crate::{
@@ -7,7 +8,7 @@ use crate::{
     cases::{
         images::spots,
         stores::{payload, poke, set_size, Place, Store},
-        sweep::case,
+        sweep::{case, lent, words},
     },
     geometry::Geometry,
     model::{
@@ -15,9 +16,20 @@ use crate::{
         header::{location_into_bytes, TYPES},
         layout, Flash,
     },
+    op::Op,
+    random::Random,
 };
 
 pub fn all(visit: Visit) -> bool {
+    let mut r = Random::new(0);
+    let mut both = |case: Case| {
+        let lent = lent(&mut r, &case);
+        visit(case) && visit(lent)
+    };
+    every_store(&mut both) && lengths(visit)
+}
+
+fn every_store(visit: Visit) -> bool {
     GRANULARITIES.into_iter().all(|granularity| {
         [(1, 1), (3, 2)].into_iter().all(|(s, c)| {
             let g = Geometry { granularity, s, c, size: 128, count: 4 };
@@ -224,4 +236,37 @@ fn orders(visit: Visit) -> bool {
             })
         })
     })
+}
+
+/// Every number of words up to two more than the image has bytes, and twice as many, in a sweep that is done and in one for each
+/// refusal.
+fn lengths(visit: Visit) -> bool {
+    let mut r = Random::new(1);
+    GRANULARITIES.into_iter().all(|granularity| {
+        let g = Geometry { granularity, s: 1, c: 1, size: 128, count: 4 };
+        each_answer(g).into_iter().all(|case| {
+            (0..=g.room() + 2).chain([2 * g.room()]).all(|many| {
+                let array = words(&mut r, many);
+                visit(Case { op: Op::SweepWith, array, ..case.clone() })
+            })
+        })
+    })
+}
+
+/// Sweeps of a small store that are done, cut, and refused for the geometry, the room, a listing, and a location.
+fn each_answer(g: Geometry) -> Vec<Case> {
+    let Small { store, objects } = small(g);
+    let done = case(&store.flash);
+    let mut broken = store.flash.clone();
+    poke(&mut broken, [0, *spots(&store.flash, 0).last().unwrap()], 0, 0x8C);
+    let mut dangling = store.flash.clone();
+    poke(&mut dangling, objects[0], layout::header_len(g) as u32 + 4, 9);
+    let [short, long] = [g.room() - 1, g.room() + 1].map(|room| {
+        let mut case = done.clone();
+        case.image.resize(room, 0xFF);
+        case
+    });
+    let cut = |fuse| Case { fuse: Some(fuse), ..done.clone() };
+    let wrong = Case { geometry: Geometry { s: 0, ..g }, ..short.clone() };
+    vec![cut(0), cut(1), cut(3), wrong, short, long, case(&broken), case(&dangling), done]
 }
