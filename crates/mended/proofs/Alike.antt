@@ -19,7 +19,7 @@ use Rattle.shown.specs.Whole.{Whole}
 use Rattle.sweep.specs.Twins.{typeIn, isTwin}
 use Rattle.objects.proofs.Equal.{equal-is, equal-refl}
 use Rattle.byname.proofs.Payloads.{part-read}
-use Rattle.sweep.proofs.Ready.{two-true}
+use Rattle.sweep.proofs.Alike.{both-true}
 use Rattle.sweep.proofs.SameTwin.{second-reads}
 
 -- an object that reads whole, by its payload
@@ -43,12 +43,12 @@ same-turned (refused n) y e = absurd (false≢true e)
 pub twin-turned : (g : Geometry) (img : List ℕ) (a b : ObjectHeader) → isTwin g img a b ≡ true → isTwin g img b a ≡ true
 unfolding isTwin samePayload
 twin-turned g img a b e =
-    let p = two-true _ _ e in
+    let p = both-true _ _ e in
     rw (eq-eqb _ _ (sym (eqb-true _ _ (p .0)))) (same-turned (readPayload g a img) (readPayload g b img) (p .1))
 
 -- and have one payload
 pub twin-payload : (g : Geometry) (img : List ℕ) (a b : ObjectHeader) (bs : List ℕ) → isTwin g img a b ≡ true → readPayload g a img ≡ done bs → readPayload g b img ≡ done bs
 unfolding isTwin samePayload
 twin-payload g img a b bs e p =
-    let q = two-true (eqb (typeIn (a .state)) (typeIn (b .state))) (sameBytes (readPayload g a img) (readPayload g b img)) e in
+    let q = both-true (eqb (typeIn (a .state)) (typeIn (b .state))) (sameBytes (readPayload g a img) (readPayload g b img)) e in
     second-reads (readPayload g a img) (readPayload g b img) bs (q .1) p

@@ -44,7 +44,8 @@ use Rattle.sweep.proofs.Toured.{blockTour, Dropped, all-listed, one-type}
 use Rattle.sweep.proofs.Kept.{Kept, endOf, before-one, behind-one, in-order}
 use Rattle.sweep.proofs.ReadsKept.{Stays, named-kept, whole-kept}
 use Rattle.sweep.proofs.SameTwin.{twin-named, twin-locations, twin-whole}
-use Rattle.sweep.proofs.Ready.{Ready, Held, all-both, all-split, two-true, stays-by, held-by, sound-listed}
+use Rattle.sweep.proofs.Alike.{both-true}
+use Rattle.sweep.proofs.Ready.{Ready, Held, all-both, all-split, stays-by, held-by, sound-listed}
 use Rattle.sweep.proofs.Stepped.{still-sound}
 use Rattle.mended.proofs.Lists.{In, any-right, all-in}
 use Rattle.mended.proofs.Alike.{whole-payload, twin-by}
@@ -213,7 +214,7 @@ module _ (g : Geometry) (h : ObjectHeader) (to : ObjectLocation) (room : ℕ) (t
   copy-sound : isSound g copy m ≡ true
   unfolding isSound
   copy-sound =
-      let s = two-true (isWhole g h (length m)) (every (λ l. isListed g l m) (locationsOf g h m)) (all-in (λ x. isSound g x m ≡ true) h (metadataIn g img) original-in sound-still) in
+      let s = both-true (isWhole g h (length m)) (every (λ l. isListed g l m) (locationsOf g h m)) (all-in (λ x. isSound g x m ≡ true) h (metadataIn g img) original-in sound-still) in
       ap₂ (λ (a b : Bool). a && b) (twin-whole g m fine h copy alike original-whole) (ap (every (λ l. isListed g l m)) (sym (twin-locations g m fine h copy alike original-whole)) ∙ s .1)
 
   pub ready-still : Ready g (copied g h to t img)

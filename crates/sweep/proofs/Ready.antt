@@ -29,6 +29,7 @@ use Rattle.sweep.specs.Laws.{SameStreets}
 use Rattle.sweep.proofs.Marks.{Listed, at-object, header-is}
 use Rattle.sweep.proofs.Endings.{sweepable-by}
 use Rattle.sweep.proofs.Kept.{Kept}
+use Rattle.sweep.proofs.Alike.{both-true}
 use Rattle.sweep.proofs.ReadsKept.{Stays, read-kept, size-kept}
 use Rattle.sweep.proofs.Turns.{sweepable-fine}
 
@@ -42,14 +43,10 @@ pub all-both : {A : Type 0} (P Q : A → Type 0) (xs : List A) → All P xs → 
 all-both P Q [] a b = tt
 all-both P Q (x ∷ xs) a b = ((a .0, b .0), all-both P Q xs (a .1) (b .1))
 
-pub two-true : (a b : Bool) → (a && b) ≡ true → (a ≡ true) × (b ≡ true)
-two-true true b e = (refl, e)
-two-true false b e = absurd (false≢true e)
-
 module _ {A : Type 0} (p : A → Bool) where
   pub every-all : (xs : List A) → every p xs ≡ true → All (λ x. p x ≡ true) xs
   every-all [] e = tt
-  every-all (x ∷ xs) e = let b = two-true (p x) (every p xs) e in (b .0, every-all xs (b .1))
+  every-all (x ∷ xs) e = let b = both-true (p x) (every p xs) e in (b .0, every-all xs (b .1))
 
   pub all-every : (xs : List A) → All (λ x. p x ≡ true) xs → every p xs ≡ true
   all-every [] a = refl
@@ -78,7 +75,7 @@ module _ {A : Type 0} (p : A → Bool) where
 
 pub same-place-is : (a b : ObjectLocation) → sameAt a b ≡ true → a ≡ b
 same-place-is a b e =
-    let p = two-true (eqb (a .block) (b .block)) (eqb (a .offset) (b .offset)) e in
+    let p = both-true (eqb (a .block) (b .block)) (eqb (a .offset) (b .offset)) e in
     ap₂ (λ (x y : ℕ). record { block = x; offset = y }) (eqb-true _ _ (p .0)) (eqb-true _ _ (p .1))
 
 -- ---- what the check tells
@@ -135,12 +132,12 @@ stays-by g img other fine l ds a e =
 module _ (g : Geometry) (img other : List ℕ) (fine : checkOf g (length img) ≡ 0) where
   pub held-by : (e : ObjectHeader) → Listed g Metadata e img → isSound g e img ≡ true → Kept g img other e → All (Stays g img other) (locationsOf g e img) → Held g img other e
   unfolding isSound
-  held-by e l s k a = record { whole = two-true (isWhole g e (length img)) (every (λ l. isListed g l img) (locationsOf g e img)) s .0; kept = k; info = at-object g Metadata e img fine l .info; stays = a }
+  held-by e l s k a = record { whole = both-true (isWhole g e (length img)) (every (λ l. isListed g l img) (locationsOf g e img)) s .0; kept = k; info = at-object g Metadata e img fine l .info; stays = a }
 
   -- every location of a sound object is listed
   pub sound-listed : (e : ObjectHeader) → isSound g e img ≡ true → All (λ l. isListed g l img ≡ true) (locationsOf g e img)
   unfolding isSound
-  sound-listed e s = every-all (λ l. isListed g l img) (locationsOf g e img) (two-true (isWhole g e (length img)) (every (λ l. isListed g l img) (locationsOf g e img)) s .1)
+  sound-listed e s = every-all (λ l. isListed g l img) (locationsOf g e img) (both-true (isWhole g e (length img)) (every (λ l. isListed g l img) (locationsOf g e img)) s .1)
 
   -- where all metadata that is left is held, what a lookup finds reads as before
   module _ (long : length other ≡ length img) (ks : List ObjectHeader) (q : metadataIn g other ≡ ks) (a : All (Held g img other) ks)

@@ -22,13 +22,13 @@ use Rattle.sweep.proofs.Lists.{all-map}
 use Rattle.sweep.proofs.Marks.{Listed, Marked, marked-bytes}
 use Rattle.sweep.proofs.Toured.{all-listed, tour-shut, tour-then}
 use Rattle.sweep.proofs.Kept.{Kept, kept-around, kept-other, twin-kept}
-use Rattle.sweep.proofs.Alike.{some-same, twins-same}
+use Rattle.sweep.proofs.Alike.{both-true, some-same, twins-same}
 use Rattle.sweep.proofs.DeletingTwins.{twins-left}
 use Rattle.sweep.proofs.DeletingUnreferred.{except-same}
 use Rattle.sweep.proofs.Plans.{twins-append, FirstTwin, first-twin}
 use Rattle.sweep.proofs.ReadsKept.{Stays}
 use Rattle.sweep.proofs.SameTwin.{twin-named, twin-locations}
-use Rattle.sweep.proofs.Ready.{Ready, Held, all-split, all-both, two-true, stays-by, held-by, sound-listed, same-streets}
+use Rattle.sweep.proofs.Ready.{Ready, Held, all-split, all-both, stays-by, held-by, sound-listed, same-streets}
 use Rattle.sweep.proofs.Stepped.{Next, first-same, first-drop, some-drop, look-by, held-named, held-locations, still-sound}
 
 module _ (g : Geometry) (img : List ℕ) (h : ObjectHeader) (ts : List ObjectHeader) (e : twins g img ≡ h ∷ ts) where
@@ -51,7 +51,7 @@ module _ (g : Geometry) (img : List ℕ) (r : Ready g img) (h : ObjectHeader) (t
 
   twin-is-whole : isWhole g h (length img) ≡ true
   unfolding isSound
-  twin-is-whole = two-true (isWhole g h (length img)) (every (λ l. isListed g l img) (locationsOf g h img)) twin-sound .0
+  twin-is-whole = both-true (isWhole g h (length img)) (every (λ l. isListed g l img) (locationsOf g h img)) twin-sound .0
 
   left-over : (metadataIn g other ≡ f .front ++ f .back) × (tour g Metadata other .end ≡ tour g Metadata img .end)
   left-over = tour-then g Metadata h img (r .fine) twin-listed other m (f .front) (f .back) (f .order)
