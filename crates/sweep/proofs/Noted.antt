@@ -8,7 +8,7 @@ use native.Mathlib.Nat.{suc-mul, mul-le-mul-right}
 use native.Mathlib.Numerals.{add-one}
 use native.Mathlib.Omega.{arith}
 use lib.ListN.{length, getD, set, drop, replicate, length-set, length-replicate, getD-replicate, replicate-append-replicate, List·getD-eq-default}
-use lib.Seq.{drop-cons, set-at, set-out, getD-set-same, getD-set-other}
+use lib.Seq.{drop-cons, set-at, getD-set-same, getD-set-other}
 use lib.Dec.{leb, eqb}
 use borrow.Author.Tests.{eqb-true, eqb-false, eq-eqb, ne-eqb, le-leb, lt-leb}
 use Rattle.medium.specs.declared.geometry.Geometry.{Geometry}

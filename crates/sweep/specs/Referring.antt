@@ -3,7 +3,7 @@
 -- blocks before any store." "Metadata objects are those listed in Metadata blocks, data and name objects those listed in Data blocks; other blocks
 -- are not looked at."
 use Prim.Native.Nat.{ℕ, zero, suc, _+_, _-_, _%_}
-use mathlib.Core.Bool.{Bool, true, false, _&&_}
+use mathlib.Core.Bool.{Bool, _&&_}
 use mathlib.Core.List.{List, [], _∷_}
 use lib.ListN.{length}
 use lib.Dec.{leb, eqb}

@@ -118,6 +118,7 @@ fn are_listed(g: Geometry, image: &[u8], words: &[u32], m: MetadataObjectHeader)
     }
 }
 
+// Whether a metadata object is whole, and all that it refers to is listed.
 fn is_sound(g: Geometry, image: &[u8], words: &[u32], h: ObjectHeader) -> bool
     requires { ⌜ checkOf g (length (now image)) ≡ 0 ⌝ }
     requires { ⌜ tour g Data (now image) .end ≡ done tt ⌝ }
@@ -137,6 +138,7 @@ fn is_sound(g: Geometry, image: &[u8], words: &[u32], h: ObjectHeader) -> bool
     false
 }
 
+// Whether all of them are.
 fn are_sound(g: Geometry, image: &[u8], words: &[u32]) -> bool
     requires { ⌜ checkOf g (length (now image)) ≡ 0 ⌝ }
     requires { ⌜ tour g Data (now image) .end ≡ done tt ⌝ }

@@ -1,7 +1,5 @@
 // Which payloads were met, in lent words, by a key of each.
 ghost use mathlib.Core.Path.{_≡_};
-ghost use lib.ListN.{length};
-ghost use Prim.Native.Nat.{_<_, _/_};
 ghost use Rattle.sweep.specs.Slots.{keyOf, find, takeBy};
 
 // The key has a slot already, with a block to look from; or this slot is free; or there is none.

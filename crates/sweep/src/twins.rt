@@ -74,7 +74,7 @@ fn has_earlier(g: Geometry, image: &[u8], h: ObjectHeader, block: u32) -> bool
     }
 }
 
-// Whether one like it stands before it. This block is looked at first: it may be the one.
+// Whether one like it stands before it. It is looked for from this block on first, since the slot of its key names it.
 fn has_like(g: Geometry, image: &[u8], h: ObjectHeader, block: u32) -> bool
     requires { ⌜ checkOf g (length (now image)) ≡ 0 ⌝ }
     requires { ⌜ tour g Metadata (now image) .end ≡ done tt ⌝ }
@@ -95,6 +95,7 @@ struct Judged {
     sure: bool,
 }
 
+// By the slots, where they know all that were met before it: a key that is new is that of no twin. Else by a walk.
 fn judge(g: Geometry, image: &[u8], words: &mut [u32], sure: bool, h: ObjectHeader) -> Judged
     requires { ⌜ checkOf g (length (now image)) ≡ 0 ⌝ }
     requires { ⌜ tour g Metadata (now image) .end ≡ done tt ⌝ }

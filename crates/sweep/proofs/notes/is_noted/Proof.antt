@@ -1,10 +1,9 @@
-use mathlib.Core.Path.{sym, ap}
 use Prim.Native.Nat.{ℕ}
 use native.Mathlib.Omega.{arith}
 use Rattle.medium.specs.Geometry.{address}
 use lib.ListN.{List·getD-eq-default}
-use borrow.Author.Tests.{le-leb, lt-leb, eq-eqb, ne-eqb}
-use Rattle.sweep.specs.Notes.{note, isNoted}
+use borrow.Author.Tests.{le-leb, lt-leb}
+use Rattle.sweep.specs.Notes.{isNoted}
 use borrow.Author.Needs.{needs}
 use Rattle.sweep.proofs.notes.is_noted.Statement.{statement}
 use Rattle.sweep.proofs.notes.is_noted.Tie as tie

@@ -1,8 +1,8 @@
-use mathlib.Core.Path.{sym, ap}
+use mathlib.Core.Path.{sym}
 use native.Mathlib.Omega.{arith}
 use lib.Seq.{set-out}
-use borrow.Author.Tests.{le-leb, lt-leb, eq-eqb, ne-eqb}
-use Rattle.sweep.specs.Notes.{note, isNoted}
+use borrow.Author.Tests.{le-leb, lt-leb}
+use Rattle.sweep.specs.Notes.{note}
 use borrow.Author.Needs.{needs}
 use Rattle.sweep.proofs.notes.note.Statement.{statement}
 use Rattle.sweep.proofs.notes.note.Tie as tie
