@@ -72,7 +72,7 @@ unsigned read_dump(const char *folder, struct dump *dump)
     g->granularity = record[0];
     g->s = record[1];
     g->c = record[2];
-    g->reserved = record[3];
+    g->strict = record[3];
     g->block_size = low_first(record + 4);
     g->block_count = low_first(record + 8);
 

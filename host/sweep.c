@@ -161,6 +161,8 @@ static enum ending explain(const struct dump *d, unsigned answer)
         fprintf(stderr, "geometry.bin is no geometry record, or breaks a rule of one: see docs/FORMAT.md.");
     else if (answer == STUMPCHOIR_BAD_ROOM)
         fprintf(stderr, "image.bin has another length than geometry.bin says: see docs/FORMAT.md.");
+    else if (answer == STUMPCHOIR_DANGLING && d->geometry.strict)
+        fprintf(stderr, "geometry.bin has the strict mark: a store on a chip that programs no unit twice is not swept.");
     else if (answer == STUMPCHOIR_DANGLING)
         explain_dangling(d);
     else

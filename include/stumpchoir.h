@@ -11,6 +11,10 @@
  * went in, but for a writer, which is spent after 8, for *done of stumpchoir_write_all, and for *twins, *unreferred and words of the sweeps;
  * image and units have exactly what was stored before the refusal.
  *
+ * With strict 1, for a chip that programs no unit twice, a store is 10 where a unit that is not all FF would get data that, filled up with FF, is
+ * not all FF. That is after 3 and before 8, nothing is stored of it, and it takes no power. An erase, a format and the collector's second and
+ * third pass never give it; stumpchoir_sweep and stumpchoir_sweep_with answer 14. An image's bytes do not tell the mark.
+ *
  * Pointers: none is kept after a call. No two of one call may overlap. `units` may be null where `fused` is false, and a buffer may be where
  * its length is 0; no other may be. A length has to be that of the buffer, since no call can tell
  * a false one. Bytes to write that are longer than a block get 3, by a writer 5, and so does stumpchoir_read of so many, even of SIZE_MAX; that
@@ -43,6 +47,7 @@ enum stumpchoir_answer {
     STUMPCHOIR_BAD_ROOM = 7,
     STUMPCHOIR_POWER_LOST = 8,
     STUMPCHOIR_RUST_PANIC = 9,
+    STUMPCHOIR_NOT_ERASED = 10,
     STUMPCHOIR_NOT_FOUND = 13,
     STUMPCHOIR_DANGLING = 14
 };
@@ -89,19 +94,20 @@ enum stumpchoir_found {
 /* ---- Values are structs of uint32_t, and nothing else stands in them: a caller in another language hands arrays of as many numbers ---- */
 
 /* How an image is laid out. granularity is an enum stumpchoir_granularity; s bytes hold a size or an offset, c bytes a block number,
- * 1 to 3 each; reserved is 0. block_size is 64 to 65536, a multiple of 4 and at most 256^s; block_count is at least 1 and at most
- * 256^c; together they are at most 16777216, and just the length of the image. Anything else is 6, another length 7. */
+ * 1 to 3 each; strict is 0, or 1 for a chip that programs no unit twice, which goes with words only. block_size is 64 to 65536, a
+ * multiple of 4 and at most 256^s; block_count is at least 1 and at most 256^c; together they are at most 16777216, and just the
+ * length of the image. Anything else is 6, another length 7. */
 struct stumpchoir_geometry {
     uint32_t granularity;
     uint32_t s;
     uint32_t c;
-    uint32_t reserved;
+    uint32_t strict;
     uint32_t block_size;
     uint32_t block_count;
 };
 typedef char stumpchoir_geometry_is_6_numbers[sizeof(struct stumpchoir_geometry) == 6 * sizeof(uint32_t) ? 1 : -1];
 enum stumpchoir_geometry_index {
-    STUMPCHOIR_GEOMETRY_GRANULARITY = 0, STUMPCHOIR_GEOMETRY_S = 1, STUMPCHOIR_GEOMETRY_C = 2, STUMPCHOIR_GEOMETRY_RESERVED = 3,
+    STUMPCHOIR_GEOMETRY_GRANULARITY = 0, STUMPCHOIR_GEOMETRY_S = 1, STUMPCHOIR_GEOMETRY_C = 2, STUMPCHOIR_GEOMETRY_STRICT = 3,
     STUMPCHOIR_GEOMETRY_BLOCK_SIZE = 4, STUMPCHOIR_GEOMETRY_BLOCK_COUNT = 5
 };
 
@@ -235,7 +241,7 @@ uint8_t stumpchoir_align(STUMPCHOIR_GEOMETRY, uint32_t n, uint64_t *aligned);
 /* A range of one block, into the buffer. */
 uint8_t stumpchoir_read(STUMPCHOIR_GEOMETRY, STUMPCHOIR_IMAGE, uint32_t block, uint32_t offset, uint8_t *buffer, size_t buffer_len);
 
-/* Programs the bytes of src at a place of a block. */
+/* Programs the bytes of src at a place of a block: one store, so 3, then 10, then 8. */
 uint8_t stumpchoir_write(STUMPCHOIR_GEOMETRY, STUMPCHOIR_STORE, uint32_t block, uint32_t offset, const uint8_t *src, size_t src_len);
 
 /* Sets a block to FF: one unit. */
@@ -254,17 +260,18 @@ uint8_t stumpchoir_location_from_bytes(STUMPCHOIR_GEOMETRY, const uint8_t *bytes
 /* The header at a place. */
 uint8_t stumpchoir_header_read(STUMPCHOIR_GEOMETRY, STUMPCHOIR_IMAGE, uint32_t block, uint32_t offset, struct stumpchoir_header *header);
 
-/* Stores the mark of a state that lies ahead; the present state stores nothing, backwards is 4, Free is 9. */
+/* Stores the mark of a state that lies ahead, or is 10; the present state stores nothing, backwards is 4, Free is 9. */
 uint8_t stumpchoir_update_state(STUMPCHOIR_GEOMETRY, STUMPCHOIR_STORE, struct stumpchoir_header *header, uint8_t state);
 
-/* Stores the low s bytes of a size that is not set yet; one that is set is 4. */
+/* Stores the low s bytes of a size that is not set yet, or is 10; one that is set is 4. */
 uint8_t stumpchoir_set_payload_size(STUMPCHOIR_GEOMETRY, STUMPCHOIR_STORE, struct stumpchoir_header *header, uint32_t payload_size);
 
 /* ---- Writers ----
  *
  * After 8 `spent` of a writer that went in is 1, and nothing else of it has changed: each later write, finalize and delete of it gives 4. */
 
-/* Stores the type (8F, 8E or 8D, else 4) of a new object, over Free or over Allocated of the same type: its writer. */
+/* Stores the type (8F, 8E or 8D, else 4) of a new object, over Free or over Allocated of the same type: its writer. Under the strict
+ * mark the second is 10, and the first where its unit is programmed. */
 uint8_t stumpchoir_writer_allocate(STUMPCHOIR_GEOMETRY, STUMPCHOIR_STORE, uint32_t block, uint32_t offset, uint8_t type, struct stumpchoir_writer *writer);
 
 /* The payload bytes that still fit; 9 where the writer stands past the end of its block. */
@@ -276,13 +283,15 @@ uint8_t stumpchoir_writer_payload_size(STUMPCHOIR_GEOMETRY, const struct stumpch
 /* Those and the header. */
 uint8_t stumpchoir_writer_total_size(STUMPCHOIR_GEOMETRY, const struct stumpchoir_writer *writer, uint64_t *total_size);
 
-/* Takes payload bytes: whole words are stored, less than a word is held. 5 where they are more than the space. */
+/* Takes payload bytes: whole words are stored, less than a word is held. 5 where they are more than the space. The word that held
+ * bytes fill is a store of its own: 10 of the words behind it leaves it there. */
 uint8_t stumpchoir_writer_write(STUMPCHOIR_GEOMETRY, STUMPCHOIR_STORE, struct stumpchoir_writer *writer, const uint8_t *src, size_t src_len);
 
-/* Ends the object: what is held, the size, and the mark of a Finalized object. */
+/* Ends the object: what is held, the size, and the mark of a Finalized object; each store can be 10. */
 uint8_t stumpchoir_writer_finalize(STUMPCHOIR_GEOMETRY, STUMPCHOIR_STORE, struct stumpchoir_writer *writer);
 
-/* Deletes the object: one that is not Finalized gets its size first; of one that is Free or Deleted nothing is stored. */
+/* Deletes the object: one that is not Finalized gets its size first; of one that is Free or Deleted nothing is stored. Each store can
+ * be 10. */
 uint8_t stumpchoir_writer_delete(STUMPCHOIR_GEOMETRY, STUMPCHOIR_STORE, struct stumpchoir_writer *writer);
 
 /* ---- Readers ---- */
@@ -310,10 +319,10 @@ uint8_t stumpchoir_info_read(STUMPCHOIR_GEOMETRY, STUMPCHOIR_IMAGE, uint32_t blo
 /* Header and payload together, in bytes. */
 uint8_t stumpchoir_info_total_size(STUMPCHOIR_GEOMETRY, const struct stumpchoir_header *header, uint64_t *total_size);
 
-/* Stores the mark of a Finalized object. */
+/* Stores the mark of a Finalized object, or is 10. */
 uint8_t stumpchoir_info_finalize(STUMPCHOIR_GEOMETRY, STUMPCHOIR_STORE, struct stumpchoir_header *header);
 
-/* Stores the mark of a Deleted object. */
+/* Stores the mark of a Deleted object, or is 10. */
 uint8_t stumpchoir_info_delete(STUMPCHOIR_GEOMETRY, STUMPCHOIR_STORE, struct stumpchoir_header *header);
 
 /* ---- Metadata objects ---- */
@@ -342,13 +351,14 @@ uint8_t stumpchoir_iterator_next(STUMPCHOIR_GEOMETRY, STUMPCHOIR_IMAGE, struct s
 /* ---- Objects written whole, copied, moved ---- */
 
 /* An object of a type (8F, 8E or 8D, else 4), written whole: *total_size is its header and payload together. The type is stored
- * first, and 5, where the payload does not fit, leaves it there. */
+ * first, and 5, where the payload does not fit, leaves it there; 10 of a later store leaves those before it. */
 uint8_t stumpchoir_write_to(STUMPCHOIR_GEOMETRY, STUMPCHOIR_STORE, uint32_t block, uint32_t offset, uint8_t type, const uint8_t *src, size_t src_len, uint64_t *total_size);
 
-/* The Finalized object that a header names, anew at another place: its header there. The type is the one that the header says. */
+/* The Finalized object that a header names, anew at another place: its header there. The type is the one that the header says. 10
+ * leaves what was stored of it. */
 uint8_t stumpchoir_copy_object(STUMPCHOIR_GEOMETRY, STUMPCHOIR_STORE, const struct stumpchoir_header *header, uint32_t block, uint32_t offset, struct stumpchoir_header *copy);
 
-/* The same, and then the object is deleted where it was. */
+/* The same, and then the object is deleted where it was; 10 of its delete mark leaves both, the copy finished. */
 uint8_t stumpchoir_move_object(STUMPCHOIR_GEOMETRY, STUMPCHOIR_STORE, const struct stumpchoir_header *header, uint32_t block, uint32_t offset, struct stumpchoir_header *copy);
 
 /* ---- Several objects of a block in one call ----
@@ -357,7 +367,8 @@ uint8_t stumpchoir_move_object(STUMPCHOIR_GEOMETRY, STUMPCHOIR_STORE, const stru
  * 64 records or a part of one, before any store. *done is written in every case, also where the call is refused. */
 
 /* Up to 64 records in order, each written as stumpchoir_write_to writes an object, up to the first refusal; *done is how many were
- * written whole. At its turn a record whose range is outside the payload is 7, then one whose type is none of the three is 4. */
+ * written whole. At its turn a record whose range is outside the payload is 7, then one whose type is none of the three is 4, then
+ * what stumpchoir_write_to answers, 10 too. */
 uint8_t stumpchoir_write_all(STUMPCHOIR_GEOMETRY, STUMPCHOIR_STORE, uint32_t block, const uint32_t *records, size_t records_len, const uint8_t *payload, size_t payload_len, uint32_t *done);
 
 /* ---- Blocks ---- */
@@ -365,7 +376,7 @@ uint8_t stumpchoir_write_all(STUMPCHOIR_GEOMETRY, STUMPCHOIR_STORE, uint32_t blo
 /* The header of a block: kind and erase count. */
 uint8_t stumpchoir_block_header_read(STUMPCHOIR_GEOMETRY, STUMPCHOIR_IMAGE, uint32_t block, struct stumpchoir_block_header *header);
 
-/* Programs a header. */
+/* Programs a header, or is 10. */
 uint8_t stumpchoir_block_header_write(STUMPCHOIR_GEOMETRY, STUMPCHOIR_STORE, uint32_t block, uint32_t kind, uint32_t erase_count);
 
 /* Whether all bytes behind the header are FF: 1 or 0. */
@@ -380,7 +391,8 @@ uint8_t stumpchoir_format_storage(STUMPCHOIR_GEOMETRY, STUMPCHOIR_STORE);
 /* The record of a block, read off its bytes; 1 for an Empty one, 2 where a header in it is corrupted. */
 uint8_t stumpchoir_scan_block(STUMPCHOIR_GEOMETRY, STUMPCHOIR_IMAGE, uint32_t block, struct stumpchoir_record *record);
 
-/* Programs the type byte; 4 for a kind below 2. */
+/* Programs the type byte; 4 for a kind below 2. Under the strict mark a block that has a type already is 10, but for Undefined, which
+ * stores FF. */
 uint8_t stumpchoir_set_block_type(STUMPCHOIR_GEOMETRY, STUMPCHOIR_STORE, uint32_t block, uint32_t kind);
 
 /* What is free, and what unfinished and deleted objects take; 9 where the listing runs past the block. */
@@ -405,7 +417,7 @@ uint8_t stumpchoir_record_update_stats_after_erase(STUMPCHOIR_GEOMETRY, struct s
  * The table is lent: a record a block, four numbers each, table_len counted in numbers. 7 for another length, and 4 for an impossible kind
  * or mark anywhere in it, before any step. After a refusal image and table have exactly what was stored before. */
 
-/* The first pass: deletes objects that a power cut left unfinished. */
+/* The first pass: deletes objects that a power cut left unfinished, or is 10 where their size or mark cannot be stored. */
 uint8_t stumpchoir_delete_invalid_objects(STUMPCHOIR_GEOMETRY, STUMPCHOIR_STORE, uint32_t *table, size_t table_len);
 
 /* The second: formats blocks without allocation whose only object that is not deleted is an unfinished one. */
@@ -414,7 +426,7 @@ uint8_t stumpchoir_erase_invalid_finished_blocks(STUMPCHOIR_GEOMETRY, STUMPCHOIR
 /* The third: formats blocks with deleted objects alone, unless they are full. */
 uint8_t stumpchoir_erase_full_finished_blocks(STUMPCHOIR_GEOMETRY, STUMPCHOIR_STORE, uint32_t *table, size_t table_len);
 
-/* A collection: the three passes in order. */
+/* A collection: the three passes in order. Only the first can be 10. */
 uint8_t stumpchoir_run(STUMPCHOIR_GEOMETRY, STUMPCHOIR_STORE, uint32_t *table, size_t table_len);
 
 /* ---- Files by their names ----
@@ -448,7 +460,8 @@ uint8_t stumpchoir_names_next(STUMPCHOIR_GEOMETRY, STUMPCHOIR_IMAGE, struct stum
 /* Of Finalized metadata objects of equal type and payload bytes the first stays, in block and offset order, and the others are
  * deleted; then each Finalized object of a Data block is that no Finalized metadata object refers to. *twins and *unreferred are how
  * many were deleted of each. 2 where a Metadata or Data block cannot be listed, then 14 where metadata is not a hash, a name location
- * and whole locations within its block, or one of these has no Finalized object of a Data block; both before any store. */
+ * and whole locations within its block, or one of these has no Finalized object of a Data block, and under the strict mark; both
+ * before any store. */
 uint8_t stumpchoir_sweep(STUMPCHOIR_GEOMETRY, STUMPCHOIR_STORE, uint32_t *twins, uint32_t *unreferred);
 
 /* The same, and sooner: what was met is noted in the words, which the caller lends, one for each byte of the image; 7 for another

@@ -86,8 +86,8 @@ MEDIUM = [
     dict(name='read', says='A range of one block, into the buffer.', place='image', params='block offset buffer[]>',
          calls='cface::filled::read', args='g, image, block, offset, buffer',
          means='readAt g block offset (length buffer) image', **{'as': 'plain'}),
-    dict(name='write', says='Programs the bytes of src at a place of a block.', place='store', params='block offset src[]',
-         calls='medium::write', args='g, image, f, block, offset as usize, src', means='write g block offset src', hand='stored'),
+    dict(name='write', says='Programs the bytes of src at a place of a block: one store, so 3, then 10, then 8.', place='store',
+         params='block offset src[]', calls='medium::write', args='g, image, f, block, offset as usize, src', means='write g block offset src', hand='stored'),
     dict(name='erase', says='Sets a block to FF: one unit.', place='store', params='block',
          calls='medium::erase', args='g, image, f, block', means='erase g block', hand='stored'),
 ]
@@ -104,11 +104,11 @@ LOCATIONS = [
 HEADERS = [
     dict(name='header_read', says='The header at a place.', place='image', params='block offset header>header',
          calls='objects::header::ObjectHeader::read', args='g, image, at', means='headerAt g at image', hand='header'),
-    dict(name='update_state', says='Stores the mark of a state that lies ahead; the present state stores nothing, backwards is 4, Free is 9.',
+    dict(name='update_state', says='Stores the mark of a state that lies ahead, or is 10; the present state stores nothing, backwards is 4, Free is 9.',
          place='store', params='header=header state:u8', value='target', before='let h = t.header;\nlet to = t.state;',
          calls='objects::header::ObjectHeader::update_state', on='h', args='g, image, f, to',
          means='updateState g (t .header) (t .state)', hand='headed'),
-    dict(name='set_payload_size', says='Stores the low s bytes of a size that is not set yet; one that is set is 4.', place='store',
+    dict(name='set_payload_size', says='Stores the low s bytes of a size that is not set yet, or is 10; one that is set is 4.', place='store',
          params='header=header payload_size', value='header',
          calls='objects::header::ObjectHeader::set_payload_size', on='h', args='g, image, f, payload_size',
          means='setPayloadSize g h payload_size', hand='headed'),
@@ -116,7 +116,8 @@ HEADERS = [
 
 WRITERS = [
     dict(name='writer_allocate',
-         says='Stores the type (8F, 8E or 8D, else 4) of a new object, over Free or over Allocated of the same type: its writer.',
+         says='Stores the type (8F, 8E or 8D, else 4) of a new object, over Free or over Allocated of the same type: its writer. Under '
+              'the strict mark the second is 10, and the first where its unit is programmed.',
          place='store', params='block offset kind:type writer>writer', value='type',
          calls='writer::writer::ObjectWriter::allocate', args='g, image, f, at, t', means='allocate g at t', hand='new_writer',
          small='small-by _ _ _ _ (@allocate .result .answer) (@allocate .result .writer) (@allocate .ensures .0) (allocate-small _ _ _ _ _)'),
@@ -128,16 +129,19 @@ WRITERS = [
          means='payloadSize g w', hand='count'),
     dict(name='writer_total_size', says='Those and the header.', place='alone', params='writer<writer total_size>u64', value='writer',
          calls='writer::writer::ObjectWriter::total_size', on='w', args='g', means='totalSize g w', hand='count', homes=['writer totalSize']),
-    dict(name='writer_write', says='Takes payload bytes: whole words are stored, less than a word is held. 5 where they are more than the space.',
+    dict(name='writer_write',
+         says='Takes payload bytes: whole words are stored, less than a word is held. 5 where they are more than the space. The word that held '
+              'bytes fill is a store of its own: 10 of the words behind it leaves it there.',
          place='store', params='writer=writer src[]', value='writer', calls='writer::writer::ObjectWriter::write', on='w',
          args='g, image, f, src', means='writeSome g w src', hand='writer',
          small='small-by _ _ _ _ (@write .result .answer) (@write .result .writer) (@write .ensures .0) (some-small _ _ _ _ _)'),
-    dict(name='writer_finalize', says='Ends the object: what is held, the size, and the mark of a Finalized object.', place='store',
-         params='writer=writer', value='writer', calls='writer::writer::ObjectWriter::finalize', on='w', args='g, image, f',
+    dict(name='writer_finalize', says='Ends the object: what is held, the size, and the mark of a Finalized object; each store can be 10.',
+         place='store', params='writer=writer', value='writer', calls='writer::writer::ObjectWriter::finalize', on='w', args='g, image, f',
          means='finalize g w', hand='writer',
          small='small-by _ _ _ _ (@finalize .result .answer) (@finalize .result .writer) (@finalize .ensures .0) (finalize-small _ _ _ _)'),
     dict(name='writer_delete',
-         says='Deletes the object: one that is not Finalized gets its size first; of one that is Free or Deleted nothing is stored.',
+         says='Deletes the object: one that is not Finalized gets its size first; of one that is Free or Deleted nothing is stored. Each store '
+              'can be 10.',
          place='store', params='writer=writer', value='writer', calls='writer::writer::ObjectWriter::delete', on='w', args='g, image, f',
          means='delete g w', hand='writer',
          small='small-by _ _ _ _ (@delete .result .answer) (@delete .result .writer) (@delete .ensures .0) (delete-small _ _ _ _)'),
@@ -168,9 +172,9 @@ INFOS = [
          means='infoAt g at image', hand='info', homes=['objects infoAt']),
     dict(name='info_total_size', says='Header and payload together, in bytes.', place='alone', params='header<header total_size>u64',
          value='header', calls='objects::info::total_size', args='g, h', means='totalSize g h', hand='count', homes=['objects totalSize']),
-    dict(name='info_finalize', says='Stores the mark of a Finalized object.', place='store', params='header=header', value='header',
+    dict(name='info_finalize', says='Stores the mark of a Finalized object, or is 10.', place='store', params='header=header', value='header',
          calls='objects::info::finalize', args='g, image, f, h', means='setState g h Valid', hand='headed'),
-    dict(name='info_delete', says='Stores the mark of a Deleted object.', place='store', params='header=header', value='header',
+    dict(name='info_delete', says='Stores the mark of a Deleted object, or is 10.', place='store', params='header=header', value='header',
          calls='objects::info::delete', args='g, image, f, h', means='setState g h Deleted', hand='headed'),
 ]
 
@@ -205,14 +209,16 @@ ITERATORS = [
 MOVING = [
     dict(name='write_to',
          says='An object of a type (8F, 8E or 8D, else 4), written whole: *total_size is its header and payload together. The type is stored '
-              'first, and 5, where the payload does not fit, leaves it there.',
+              'first, and 5, where the payload does not fit, leaves it there; 10 of a later store leaves those before it.',
          place='store', params='block offset kind:type src[] total_size>u64', value='type', calls='writer::writer::ObjectWriter::write_to',
          args='g, image, f, at, t, src', means='writeTo g at t src', hand='total', ended='wrote-ended (@write-to .result) _ ∙ {}'),
     dict(name='copy_object',
-         says='The Finalized object that a header names, anew at another place: its header there. The type is the one that the header says.',
+         says='The Finalized object that a header names, anew at another place: its header there. The type is the one that the header says. '
+              '10 leaves what was stored of it.',
          place='store', params='header<header block offset copy>header', value='header', calls='moving::copy_object',
          args='g, image, f, h, to', means='copyObject g h to', hand='headed'),
-    dict(name='move_object', says='The same, and then the object is deleted where it was.', place='store',
+    dict(name='move_object',
+         says='The same, and then the object is deleted where it was; 10 of its delete mark leaves both, the copy finished.', place='store',
          params='header<header block offset copy>header', value='header', calls='moving::move_object',
          args='g, image, f, h, to', means='moveObject g h to', hand='headed'),
 ]
@@ -220,7 +226,8 @@ MOVING = [
 BATCH = [
     dict(name='write_all',
          says='Up to 64 records in order, each written as stumpchoir_write_to writes an object, up to the first refusal; *done is how many were '
-              'written whole. At its turn a record whose range is outside the payload is 7, then one whose type is none of the three is 4.',
+              'written whole. At its turn a record whose range is outside the payload is 7, then one whose type is none of the three is 4, then what '
+              'stumpchoir_write_to answers, 10 too.',
          place='store', params='block records[]:u32 payload[] done#u32', calls='batch::write_all',
          args='g, image, f, block, records, payload', means='writeAll g block records payload', hand='batched'),
 ]
@@ -252,7 +259,8 @@ SWEEP = [
          says='Of Finalized metadata objects of equal type and payload bytes the first stays, in block and offset order, and the others are '
               'deleted; then each Finalized object of a Data block is that no Finalized metadata object refers to. *twins and *unreferred are how '
               'many were deleted of each. 2 where a Metadata or Data block cannot be listed, then 14 where metadata is not a hash, a name location '
-              'and whole locations within its block, or one of these has no Finalized object of a Data block; both before any store.',
+              'and whole locations within its block, or one of these has no Finalized object of a Data block, and under the strict mark; both '
+              'before any store.',
          place='store', params='twins#u32 unreferred#u32', calls='sweep::sweep', args='g, image, f', means='sweep g', hand='swept',
          homes=['sweep sweep']),
     dict(name='sweep_with',
@@ -265,7 +273,7 @@ SWEEP = [
 BLOCKS = [
     dict(name='block_header_read', says='The header of a block: kind and erase count.', place='image', params='block header>block_header',
          calls='blocks::header::BlockHeader::read', args='g, image, block', means='blockHeaderAt g block image', hand='block_header'),
-    dict(name='block_header_write', says='Programs a header.', place='store', params='block kind:kind erase_count', value='kind',
+    dict(name='block_header_write', says='Programs a header, or is 10.', place='store', params='block kind:kind erase_count', value='kind',
          before='let h = BlockHeader {\n    kind: k,\n    erase_count: erase_count,\n};', calls='blocks::header::BlockHeader::write', on='h',
          args='g, image, f, block', means='writeHeader g block (blockHeaderOf k erase_count)', hand='stored'),
     dict(name='is_block_data_empty', says='Whether all bytes behind the header are FF: 1 or 0.', place='image', params='block empty>u32',
@@ -277,8 +285,11 @@ BLOCKS = [
     dict(name='scan_block', says='The record of a block, read off its bytes; 1 for an Empty one, 2 where a header in it is corrupted.',
          place='image', params='block record>record', calls='blocks::scan::scan_block', args='g, image, block',
          means='scanBlock g block image', hand='record'),
-    dict(name='set_block_type', says='Programs the type byte; 4 for a kind below 2.', place='store', params='block kind:block_type',
-         value='block_type', calls='blocks::format::set_block_type', args='g, image, f, block, t', means='setBlockType g block t', hand='stored'),
+    dict(name='set_block_type',
+         says='Programs the type byte; 4 for a kind below 2. Under the strict mark a block that has a type already is 10, but for Undefined, '
+              'which stores FF.',
+         place='store', params='block kind:block_type', value='block_type', calls='blocks::format::set_block_type', args='g, image, f, block, t',
+         means='setBlockType g block t', hand='stored'),
     dict(name='calculate_freeable_space',
          says='What is free, and what unfinished and deleted objects take; 9 where the listing runs past the block.', place='image',
          params='block space>u64', calls='blocks::scan::calculate_freeable_space', args='g, image, block',
@@ -300,7 +311,8 @@ RECORDS = [
 ]
 
 COLLECTOR = [
-    dict(name='delete_invalid_objects', says='The first pass: deletes objects that a power cut left unfinished.', place='store',
+    dict(name='delete_invalid_objects',
+         says='The first pass: deletes objects that a power cut left unfinished, or is 10 where their size or mark cannot be stored.', place='store',
          params='table[]=:u32', calls='collector::delete_invalid_objects', args='g, image, table, f', means='deleteInvalidObjects g',
          hand='stored'),
     dict(name='erase_invalid_finished_blocks',
@@ -310,8 +322,8 @@ COLLECTOR = [
     dict(name='erase_full_finished_blocks', says='The third: formats blocks with deleted objects alone, unless they are full.', place='store',
          params='table[]=:u32', calls='collector::erase_full_finished_blocks', args='g, image, table, f',
          means='eraseFullFinishedBlocks g', hand='stored'),
-    dict(name='run', says='A collection: the three passes in order.', place='store', params='table[]=:u32', calls='collector::run',
-         args='g, image, table, f', means='collect g', hand='stored'),
+    dict(name='run', says='A collection: the three passes in order. Only the first can be 10.', place='store', params='table[]=:u32',
+         calls='collector::run', args='g, image, table, f', means='collect g', hand='stored'),
 ]
 
 # the crate that a module's functions are in, where it is not cface
@@ -357,9 +369,10 @@ GROUPS = [
 STRUCTS = {
     'geometry': dict(
         says='How an image is laid out. granularity is an enum stumpchoir_granularity; s bytes hold a size or an offset, c bytes a block '
-             'number, 1 to 3 each; reserved is 0. block_size is 64 to 65536, a multiple of 4 and at most 256^s; block_count is at least 1 and '
-             'at most 256^c; together they are at most 16777216, and just the length of the image. Anything else is 6, another length 7.',
-        fields=[('granularity', 1), ('s', 1), ('c', 1), ('reserved', 1), ('block_size', 1), ('block_count', 1)]),
+             'number, 1 to 3 each; strict is 0, or 1 for a chip that programs no unit twice, which goes with words only. block_size is 64 to '
+             '65536, a multiple of 4 and at most 256^s; block_count is at least 1 and at most 256^c; together they are at most 16777216, and '
+             'just the length of the image. Anything else is 6, another length 7.',
+        fields=[('granularity', 1), ('s', 1), ('c', 1), ('strict', 1), ('block_size', 1), ('block_count', 1)]),
     'location': dict(says='A place in a block.', fields=[('block', 1), ('offset', 1)]),
     'iterator': dict(says='A place in a block from which it is listed.', fields=[('block', 1), ('offset', 1)]),
     'names': dict(says='A place in a store from which file names are listed.', fields=[('block', 1), ('offset', 1)]),
@@ -388,8 +401,8 @@ STRUCTS = {
 ENUMS = {
     'answer': ('What every function answers.', [
         ('DONE', 0), ('NOT_FORMATTED', 1), ('FS_CORRUPTED', 2), ('IO', 3), ('INVALID_OPERATION', 4), ('INSUFFICIENT_SPACE', 5),
-        ('BAD_GEOMETRY', 6), ('BAD_ROOM', 7), ('POWER_LOST', 8), ('RUST_PANIC', 9), ('NOT_FOUND', 13),
-        ('DANGLING', 14)]),
+        ('BAD_GEOMETRY', 6), ('BAD_ROOM', 7), ('POWER_LOST', 8), ('RUST_PANIC', 9), ('NOT_ERASED', 10),
+        ('NOT_FOUND', 13), ('DANGLING', 14)]),
     'granularity': ('How finely a chip is programmed: by the bit, by words of a byte, by words of four.', [
         ('BIT', 0), ('WORD1', 1), ('WORD4', 4)]),
     'type': ('Types of objects, as their bytes; FREE where there is none.', [
@@ -414,6 +427,10 @@ HEAD = r"""/* Stumpchoir for C: the low-level layer of norfs over an image in me
  * then what the steps of the operation give, in their order. A refused call leaves every out value as it was and every in/out value as it
  * went in, but for a writer, which is spent after 8, for *done of stumpchoir_write_all, and for *twins, *unreferred and words of the sweeps;
  * image and units have exactly what was stored before the refusal.
+ *
+ * With strict 1, for a chip that programs no unit twice, a store is 10 where a unit that is not all FF would get data that, filled up with FF, is
+ * not all FF. That is after 3 and before 8, nothing is stored of it, and it takes no power. An erase, a format and the collector's second and
+ * third pass never give it; stumpchoir_sweep and stumpchoir_sweep_with answer 14. An image's bytes do not tell the mark.
  *
  * Pointers: none is kept after a call. No two of one call may overlap. `units` may be null where `fused` is false, and a buffer may be where
  * its length is 0; no other may be. A length has to be that of the buffer, since no call can tell

@@ -10,12 +10,12 @@ def low_first(n, width):
 
 
 class Geometry:
-    def __init__(self, granularity, size, count, s=1, c=1):
-        self.granularity, self.size, self.count, self.s, self.c = granularity, size, count, s, c
+    def __init__(self, granularity, size, count, s=1, c=1, strict=0):
+        self.granularity, self.size, self.count, self.s, self.c, self.strict = granularity, size, count, s, c, strict
 
     def record(self):
         """The 16-byte record."""
-        return bytes([self.granularity, self.s, self.c, 0]) + low_first(self.size, 4) + low_first(self.count, 4) + bytes(4)
+        return bytes([self.granularity, self.s, self.c, self.strict]) + low_first(self.size, 4) + low_first(self.count, 4) + bytes(4)
 
     def block_header(self, kind, erases):
         layout = self.s * 64 + self.c * 4 + (0 if self.granularity == BIT else 1)

@@ -1,7 +1,7 @@
 //! Puts a case to the model, the text and the library, and compares what comes back.
 
 use crate::{
-    answer::{IO, NOT_FOUND},
+    answer::{IO, NOT_ERASED, NOT_FOUND, POWER_LOST},
     case::Case,
     model,
     op::{Layer, Op},
@@ -45,9 +45,18 @@ pub fn judge(case: &Case) -> Judged {
 /// Plants a fault in the library's outcome, to show that the harness finds, shrinks and reports one: a stored byte of
 /// a write that is longer than five bytes, or of a block's or the collector's function, comes out wrong; of a batch, the
 /// count where a record behind the second is refused; a lookup of more than 16 bytes does not find what it cannot read; a
-/// sweep does not count the second twin, and with words lent it leaves a note of it.
+/// sweep does not count the second twin, and with words lent it leaves a note of it. Under the strict mark only what meets a
+/// programmed unit comes out wrong: what was stored before is taken back, and where there is no power that is told first.
 pub fn plant(case: &Case, judged: &mut Judged) {
     let mut wrong = judged.model.clone();
+    if case.geometry.marked() {
+        if wrong.answer == NOT_ERASED {
+            wrong.image = case.image.clone();
+            wrong.answer = if case.fuse == Some(0) { POWER_LOST } else { NOT_ERASED };
+        }
+        judged.library = Some(wrong);
+        return;
+    }
     if case.op.signature().layer == Layer::Batch {
         if !wrong.done() && wrong.values[0] >= 2 {
             wrong.values[0] += 1;

@@ -69,9 +69,9 @@ pub fn lines(g: Geometry, image: &[u8]) -> String {
     text
 }
 
-/// The geometry record: granularity, s, c, 0, block size, block count, four zero bytes; low byte first.
+/// The geometry record: granularity, s, c, strict mark, block size, block count, four zero bytes; low byte first.
 pub fn record(g: Geometry) -> Vec<u8> {
-    let mut bytes = vec![g.granularity, g.s, g.c, 0];
+    let mut bytes = vec![g.granularity, g.s, g.c, g.strict as u8];
     bytes.extend(g.size.to_le_bytes());
     bytes.extend(g.count.to_le_bytes());
     bytes.extend([0; 4]);

@@ -4,11 +4,15 @@
 //! move again ends as the uncut one from every cut before the finish mark; between the marks it gives 4 and stores
 //! nothing, and deleting the original ends so. And scans: where the copy goes to the free end of its block and its payload
 //! does not begin as a header could, a scan of that block is refused after the payload's units until the size is begun.
+//!
+//! Under the strict mark the promise is the same where the unit of the original's delete mark is erased; the same move again then
+//! meets the type of the unfinished copy, 10, with nothing stored. Where that unit is not erased, which goes with Word(4) only, the
+//! copy is finished, and then comes 10 at every fuse: both read as finished, and stay so.
 
 use std::ops::RangeInclusive;
 
 use crate::{
-    answer::{DONE, FS_CORRUPTED, INVALID_OPERATION},
+    answer::{DONE, FS_CORRUPTED, INVALID_OPERATION, NOT_ERASED, POWER_LOST},
     case::Case,
     cases::{images, units},
     compare::{judge, Judged},
@@ -28,6 +32,12 @@ pub struct Seen {
     pub phases: [u64; 3],
     /// scans of the copy's block: done, refused
     pub scans: [u64; 2],
+    /// the same move again from before the finish mark: done, 10
+    pub again: [u64; 2],
+    /// moves whose delete mark cannot be stored
+    pub stuck: u64,
+    /// of those, before the finish mark, and from there on
+    pub stuck_phases: [u64; 2],
 }
 
 /// A move of a finished object to an erased place, on an image made by real sequences, with power.
@@ -61,37 +71,115 @@ fn overlap(g: Geometry, header: Header, to: u32, at: u32) -> bool {
 pub fn every_fuse(case: &Case, seen: &mut Seen) -> Result<(), String> {
     let units = units(case);
     let whole = agreed(case).image;
-    let unscanned = unscanned(case);
+    let unscanned = unscanned(case, &whole);
     seen.moves += 1;
     for fuse in 0..=units + 1 {
         let cut = Case { fuse: Some(fuse), ..case.clone() };
-        let judged = judge(&cut);
-        if let Some(what) = judged.difference(&cut) {
-            return Err(format!("{what}\n{}\n{}", cut.line(), judged.show(&cut)));
-        }
+        let judged = compared(&cut)?;
         let phase = if fuse + 1 < units { 0 } else { (fuse + 2 - units).min(2) as usize };
         seen.cases += 1;
         seen.phases[phase] += 1;
         let wrong = |what: String| format!("fuse {fuse} of {units}: {what}\n{}\n{}", cut.line(), judged.show(&cut));
         phases(&cut, &judged, phase).map_err(wrong)?;
         scanned(case, &judged.model.image, fuse, &unscanned, seen).map_err(wrong)?;
+        if case.geometry.marked() && phase == 0 && fuse > 0 {
+            if !met(case, &judged.model.image, NOT_ERASED) {
+                return Err(wrong("the same move again should meet the copy's type".to_string()));
+            }
+            seen.again[1] += 1;
+            continue;
+        }
         if !mended(case, &judged.model.image, phase, &whole) {
             return Err(wrong("the way out does not end as the uncut move".to_string()));
+        }
+        seen.again[0] += (phase == 0) as u64;
+    }
+    Ok(())
+}
+
+/// The sides' outcomes, where they are the same.
+fn compared(cut: &Case) -> Result<Judged, String> {
+    let judged = judge(cut);
+    match judged.difference(cut) {
+        Some(what) => Err(format!("{what}\n{}\n{}", cut.line(), judged.show(cut))),
+        None => Ok(judged),
+    }
+}
+
+/// Whether the call, on what a cut left, gives this number with nothing stored and the fuse as it was, at fuses 0 and 3 and with
+/// power.
+fn met(case: &Case, left: &[u8], number: u8) -> bool {
+    [Some(0), Some(3), None].into_iter().all(|fuse| {
+        let again = agreed(&Case { image: left.to_vec(), fuse, ..case.clone() });
+        again.answer == number && again.image == left && again.fuse == fuse
+    })
+}
+
+/// The move on an image where another byte of the delete mark's word is programmed. No reading sees that byte. None where the mark is
+/// the whole unit.
+pub fn stuck(r: &mut Random, case: &Case) -> Option<Case> {
+    let g = case.geometry;
+    if !g.marked() || layout::width(g) == 1 {
+        return None;
+    }
+    let mut stuck = case.clone();
+    stuck.image[mark(case) + r.between(1, 3) as usize] = r.below(255) as u8;
+    Some(stuck)
+}
+
+/// Such a move at every fuse and with power: before the copy's finish mark as any move, from there on 10 with both finished, for
+/// good, and no byte changed outside the destination.
+pub fn every_fuse_stuck(case: &Case, seen: &mut Seen) -> Result<(), String> {
+    let copied = units(case);
+    seen.stuck += 1;
+    for fuse in (0..=copied + 2).map(Some).chain([None]) {
+        let cut = Case { fuse, ..case.clone() };
+        let judged = compared(&cut)?;
+        let left = fuse.map(|fuse| fuse.saturating_sub(copied));
+        let finished = fuse.is_none_or(|fuse| fuse >= copied);
+        seen.stuck_phases[finished as usize] += 1;
+        let wrong = |what: String| format!("fuse {fuse:?} of {copied}: {what}\n{}\n{}", cut.line(), judged.show(&cut));
+        phases(&cut, &judged, finished as usize).map_err(wrong)?;
+        let answer = if finished { NOT_ERASED } else { POWER_LOST };
+        for (side, outcome) in sides(&judged) {
+            if (outcome.answer, outcome.fuse) != (answer, left) || outcome.image[mark(case)] != case.image[mark(case)] {
+                return Err(wrong(format!("{side}: should end with {answer}, and with the delete mark as it was")));
+            }
+        }
+        if finished && !for_good(case, &judged.model.image) {
+            return Err(wrong("both should stay finished".to_string()));
         }
     }
     Ok(())
 }
 
+/// Neither the same move again nor a delete of the original stores anything.
+fn for_good(case: &Case, left: &[u8]) -> bool {
+    let delete = Case { op: Op::InfoDelete, args: vec![], ..case.clone() };
+    met(case, left, INVALID_OPERATION) && met(&delete, left, NOT_ERASED)
+}
+
+/// Where the original's delete mark is stored.
+fn mark(case: &Case) -> usize {
+    let (g, original) = (case.geometry, Header::from_numbers(&case.array));
+    (original.block * g.size + original.offset) as usize + layout::delete_mark(g).0 as usize
+}
+
 /// The promise about cuts, on each side's own result.
 fn phases(cut: &Case, judged: &Judged, phase: usize) -> Result<(), String> {
-    let sides =
-        [("model", Some(&judged.model)), ("text", judged.text.as_ref().ok()), ("library", judged.library.as_ref())];
-    for (side, outcome) in sides {
-        if let Some(broken) = outcome.and_then(|outcome| broken(cut, outcome, phase)) {
+    for (side, outcome) in sides(judged) {
+        if let Some(broken) = broken(cut, outcome, phase) {
             return Err(format!("{side}: {broken}"));
         }
     }
     Ok(())
+}
+
+/// The sides that were asked, each with its own result.
+fn sides(judged: &Judged) -> impl Iterator<Item = (&'static str, &Outcome)> {
+    let all =
+        [("model", Some(&judged.model)), ("text", judged.text.as_ref().ok()), ("library", judged.library.as_ref())];
+    all.into_iter().filter_map(|(side, outcome)| Some((side, outcome?)))
 }
 
 /// The scan of the copy's block is refused after just the cuts that are said, where something is said.
@@ -113,16 +201,17 @@ fn scan(case: &Case, image: &[u8]) -> Outcome {
 }
 
 /// The cuts after which the copy's block cannot be scanned; none where this is not said of the move: the copy does not go
-/// to the free end of a block that scans, its payload begins as a header could, or no second header fits.
-fn unscanned(case: &Case) -> Option<RangeInclusive<u32>> {
+/// to the free end of a block that scans, also after the uncut move, its payload begins as a header could, or no second header fits.
+fn unscanned(case: &Case, whole: &[u8]) -> Option<RangeInclusive<u32>> {
     let (g, at) = (case.geometry, case.args[1]);
     let before = scan(case, &case.image);
     let free_end = before.answer == DONE && before.values[0] >= 2 && before.values[2] == at as u64;
+    let scans = scan(case, whole).answer == DONE;
     let header = layout::header_len(g);
     let original = Header::from_numbers(&case.array);
     let (_, payload) = finished_at(case, &case.image, original.block, original.offset)?;
     let first = *payload.first()?;
-    let said = free_end && !matches!(first, 0x8D..=0x8F | 0xFF) && at as u64 + 2 * header < g.size as u64;
+    let said = free_end && scans && !matches!(first, 0x8D..=0x8F | 0xFF) && at as u64 + 2 * header < g.size as u64;
     said.then(|| 2..=1 + payload.len().div_ceil(layout::width(g) as usize) as u32)
 }
 
@@ -192,6 +281,5 @@ fn changed_elsewhere(cut: &Case, outcome: &Outcome) -> bool {
     let place = |block: u32, offset: u32| (block * g.size + offset) as usize;
     let start = place(cut.args[0], cut.args[1]);
     let span = start..start + layout::align(g, original.total(g)) as usize;
-    let mark = place(original.block, original.offset + layout::delete_mark(g).0 as u32);
-    (0..cut.image.len()).any(|i| cut.image[i] != outcome.image[i] && !span.contains(&i) && i != mark)
+    (0..cut.image.len()).any(|i| cut.image[i] != outcome.image[i] && !span.contains(&i) && i != mark(cut))
 }

@@ -4,10 +4,10 @@
 use std::collections::BTreeMap;
 
 use crate::{
-    answer,
+    answer::{self, NOT_ERASED, POWER_LOST},
     case::Case,
     compare::{Judged, Scope},
-    op::{Layer, Op},
+    op::{Layer, Op, ALL},
 };
 
 /// A row of the batches' table: its place and its name.
@@ -41,17 +41,20 @@ fn deleted_name(row: Deleted) -> &'static str {
 /// How often each number was answered; the numbers have places up to 15.
 type Counts = [u64; 16];
 
-/// One row a name, one column a number that has a name.
+/// One row a name, one column a number that has a name; 10, which comes under the strict mark only, where it was met.
 fn table<'a>(head: &str, rows: impl Iterator<Item = (String, &'a Counts)>) -> String {
+    let rows: Vec<(String, &Counts)> = rows.collect();
+    let met = rows.iter().any(|(_, counts)| counts[NOT_ERASED as usize] > 0);
+    let columns: Vec<(u8, &str)> = answer::NAMES.into_iter().filter(|&(n, _)| met || n != NOT_ERASED).collect();
     let mut text = format!("| {head} |");
-    for (number, name) in answer::NAMES {
+    for (number, name) in &columns {
         text += &format!(" {number} {name} |");
     }
     text += "\n|---|";
-    text += &"---:|".repeat(answer::NAMES.len());
+    text += &"---:|".repeat(columns.len());
     for (name, counts) in rows {
         text += &format!("\n| {name} |");
-        for (number, _) in answer::NAMES {
+        for &(number, _) in &columns {
             let count = counts[number as usize];
             text += &if count == 0 { " |".to_string() } else { format!(" {count} |") };
         }
@@ -105,6 +108,22 @@ impl Tally {
     /// Sweeps that ended with a number after such numbers of twins and of objects that nothing refers to.
     pub fn of_sweeps(&self, values: [u64; 2]) -> Counts {
         self.sweeps.get(&deleted(&values)).copied().unwrap_or_default()
+    }
+
+    /// What is wrong with a run under the strict mark: a function of the layers that can meet 10 did not, or was not done or not
+    /// cut beside that; or one that cannot meet it did.
+    pub fn strict(&self, layers: &[Layer]) -> Result<(), String> {
+        for &op in ALL.iter().filter(|op| layers.contains(&op.signature().layer)) {
+            let counts = self.of(op);
+            let wanted: &[u8] = if op.can_meet_programmed() { &[0, POWER_LOST, NOT_ERASED] } else { &[] };
+            if let Some(number) = wanted.iter().find(|&&number| counts[number as usize] == 0) {
+                return Err(format!("{} never met {}", op.name(), answer::show(*number)));
+            }
+            if !op.can_meet_programmed() && counts[NOT_ERASED as usize] > 0 {
+                return Err(format!("{} met {}", op.name(), answer::show(NOT_ERASED)));
+            }
+        }
+        Ok(())
     }
 
     /// The tables of answers as Markdown.

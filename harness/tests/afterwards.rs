@@ -18,7 +18,7 @@ const DELETED: u64 = 3;
 const LAST_COUNT: u64 = 0xFFFF_FFFF;
 
 fn small(granularity: u8, s: u8, count: u32) -> Geometry {
-    Geometry { granularity, s, c: 1, size: 64, count }
+    Geometry { granularity, s, c: 1, strict: 0, size: 64, count }
 }
 
 /// Where a block's first object goes.

@@ -99,7 +99,7 @@ fn the_count_is_written_when_nothing_is_looked_at() {
 }
 
 fn geometry(granularity: u8) -> Geometry {
-    Geometry { granularity, s: 1, c: 1, size: 128, count: 2 }
+    Geometry { granularity, s: 1, c: 1, strict: 0, size: 128, count: 2 }
 }
 
 /// What `write_to` leaves of the records one by one: the last answer, and how many were done.
@@ -194,7 +194,7 @@ fn a_record_is_looked_at_in_its_turn() {
 
 #[test]
 fn a_full_call_is_done() {
-    let g = Geometry { granularity: 0, s: 1, c: 1, size: 256, count: 4 };
+    let g = Geometry { granularity: 0, s: 1, c: 1, strict: 0, size: 256, count: 4 };
     let records = laid(g, 8, &[0; 64]);
     assert_eq!(same(None, g, &records, &[]), (0, 64));
     assert_eq!(same(Some(64 * 3 - 1), g, &records, &[]), (8, 63));

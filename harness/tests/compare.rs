@@ -113,7 +113,7 @@ fn a_planted_fault_of_a_batch_is_made_small() {
 
 #[test]
 fn a_planted_fault_of_a_lookup_is_made_small() {
-    let g = Geometry { granularity: 4, s: 2, c: 1, size: 128, count: 4 };
+    let g = Geometry { granularity: 4, s: 2, c: 1, strict: 0, size: 128, count: 4 };
     let mut store = Store::of(g, &[METADATA, DATA, METADATA, DATA]);
     let name = store.file([0, 1], 9, &[0x61; 40], &[]).unwrap().name_at;
     store.file([2, 3], 7, b"another", &[b"12"]).unwrap();
@@ -133,7 +133,7 @@ fn a_planted_fault_of_a_lookup_is_made_small() {
 
 #[test]
 fn a_planted_fault_of_a_sweep_is_made_small() {
-    let g = Geometry { granularity: 4, s: 2, c: 2, size: 256, count: 4 };
+    let g = Geometry { granularity: 4, s: 2, c: 2, strict: 0, size: 256, count: 4 };
     let mut store = Store::of(g, &[METADATA, DATA, METADATA, DATA]);
     let file = store.file([2, 1], 9, b"street", &[b"12", b"3"]).unwrap();
     store.file([0, 3], 7, b"another", &[b"12"]).unwrap();
@@ -169,7 +169,11 @@ fn harness(words: &[&str]) -> Output {
 
 /// The smallest case that a run with a planted fault reports; without the fault all sides agree on it.
 fn reported(layer: &str) -> Case {
-    let run = harness(&["compare", "--layer", layer, "--cases", "5000", "--plant"]);
+    reported_by(&["compare", "--layer", layer, "--cases", "5000", "--plant"])
+}
+
+fn reported_by(words: &[&str]) -> Case {
+    let run = harness(words);
     assert!(!run.status.success());
     let said = String::from_utf8(run.stderr).unwrap();
     assert!(said.contains("DIFFERS: the library and the"), "{said}");
@@ -192,6 +196,21 @@ fn a_planted_fault_is_reported() {
     assert_eq!((case.op, case.bytes.len()), (Op::Lookup, 17), "the shortest path of two turns");
     let case = reported("sweep");
     assert_eq!((judge(&case).model.values[0], case.geometry.size), (2, 64), "two twins, and the one that stays");
+}
+
+#[test]
+fn a_planted_fault_under_the_strict_mark_is_reported() {
+    for layer in ["medium", "objects", "blocks", "collector", "batch"] {
+        let case = reported_by(&["compare", "--layer", layer, "--strict", "--cases", "5000", "--plant"]);
+        assert_eq!((judge(&case).model.answer, case.geometry.strict), (10, 1), "{}", case.line());
+    }
+}
+
+#[test]
+fn a_run_under_the_strict_mark_fails_where_10_was_not_met() {
+    let run = harness(&["compare", "--layer", "batch", "--strict", "--cases", "0", "--random-only"]);
+    assert!(!run.status.success());
+    assert_eq!(String::from_utf8(run.stderr).unwrap(), "write_all never met 0 done\n");
 }
 
 #[test]

@@ -1,4 +1,5 @@
-//! Geometry numbers that no field can hold, or a fourth number that is not 0: 6 from one function of each shape, before anything else.
+//! Geometry numbers that no field can hold, or a fourth number that is no mark of the granularity: 6 from one function of each shape,
+//! before anything else.
 
 #![cfg(all(
     feature = "medium",
@@ -13,15 +14,18 @@ use harness::rattle::interface::*;
 
 const GOOD: [u32; 6] = [0, 1, 1, 0, 64, 1];
 
-/// The good numbers with one changed so that its low byte is still good, or the fourth not 0.
+fn with(numbers: [u32; 6], at: usize, n: u32) -> [u32; 6] {
+    let mut changed = numbers;
+    changed[at] = n;
+    changed
+}
+
+/// The good numbers with one changed so that its low byte is still good, or the fourth no mark.
 fn bad() -> Vec<[u32; 6]> {
-    [(0, 256), (1, 257), (2, 257), (3, 1), (3, 256), (4, 60), (5, 0)]
-        .map(|(at, n)| {
-            let mut numbers = GOOD;
-            numbers[at] = n;
-            numbers
-        })
-        .to_vec()
+    let bits = [(0, 256), (1, 257), (2, 257), (3, 1), (3, 256), (3, 257), (4, 60), (5, 0)];
+    let words = [(1, 2), (1, 255), (1, 256), (1, 257), (4, 2), (4, 257), (4, 1 << 31), (4, u32::MAX)];
+    let bits = bits.map(|(at, n)| with(GOOD, at, n));
+    bits.into_iter().chain(words.map(|(word, mark)| with(with(GOOD, 0, word), 3, mark))).collect()
 }
 
 /// What one function of each shape answers, with numbers that say no header and no reader beside the geometry.
@@ -71,5 +75,7 @@ fn numbers_that_say_no_geometry_are_6() {
 
 #[test]
 fn a_good_geometry_leaves_the_others_to_say() {
-    assert_eq!(answers(&GOOD), [0, 0, 0, 4, 4, 0, 7, 2]);
+    for numbers in [GOOD, with(GOOD, 0, 1), with(with(GOOD, 0, 1), 3, 1), with(with(GOOD, 0, 4), 3, 1)] {
+        assert_eq!(answers(&numbers), [0, 0, 0, 4, 4, 0, 7, 2], "{numbers:?}");
+    }
 }

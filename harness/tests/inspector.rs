@@ -2,7 +2,7 @@
 
 use harness::{geometry::Geometry, inspector};
 
-const EXAMPLE: Geometry = Geometry { granularity: 0, s: 1, c: 1, size: 256, count: 2 };
+const EXAMPLE: Geometry = Geometry { granularity: 0, s: 1, c: 1, strict: 0, size: 256, count: 2 };
 
 fn example() -> Vec<u8> {
     let mut image = vec![0xFF; 512];
@@ -31,4 +31,6 @@ fn an_unset_size_and_an_unknown_block() {
 #[test]
 fn the_record() {
     assert_eq!(inspector::record(EXAMPLE), [0, 1, 1, 0, 0, 1, 0, 0, 2, 0, 0, 0, 0, 0, 0, 0]);
+    let strict = Geometry { granularity: 4, strict: 1, ..EXAMPLE };
+    assert_eq!(inspector::record(strict), [4, 1, 1, 1, 0, 1, 0, 0, 2, 0, 0, 0, 0, 0, 0, 0]);
 }

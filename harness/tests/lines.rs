@@ -5,13 +5,25 @@ use harness::{case::Case, cases::Source, hexrun, model, op::LAYERS, recorded};
 #[test]
 fn cases_come_back() {
     for layer in LAYERS {
-        for case in Source::new(layer, 5).take(2_000) {
+        for case in Source::new(layer, 5).take(2_000).chain(Source::strict(layer, 5).take(500)) {
             assert_eq!(Case::parse(&case.line()), Ok(case.clone()));
             let outcome = model::run(&case).outcome;
             if outcome.image.len() == case.image.len() {
                 assert_eq!(recorded::parse(&recorded::line(&case, &outcome)), Ok((case, outcome)));
             }
         }
+    }
+}
+
+#[test]
+fn the_mark_stands_behind_the_count() {
+    for (mark, strict) in [("", 0), ("/strict", 1), ("/strict=2", 2), ("/strict=4294967295", u32::MAX)] {
+        let line = format!("g=4/1/1/64x1{mark} f=- erase n=0 a=- b=- i=ff*64");
+        let case = Case::parse(&line).unwrap();
+        assert_eq!((case.geometry.strict, case.line()), (strict, line));
+    }
+    for wrong in ["/", "/1", "/strict=", "/strict1", "/strict=x", "/strict=4294967296", "/strict/strict"] {
+        assert!(Case::parse(&format!("g=4/1/1/64x1{wrong} f=- erase n=0 a=- b=- i=ff*64")).is_err(), "{wrong}");
     }
 }
 

@@ -6,7 +6,7 @@ use bench::{benches, Bench};
 use harness::{geometry::Geometry, op::Op};
 
 fn each(granularity: u8, run: impl Fn(&mut Bench) -> Option<()>) {
-    let geometry = Geometry { granularity, s: 1, c: 1, size: 64, count: 2 };
+    let geometry = Geometry { granularity, s: 1, c: 1, strict: 0, size: 64, count: 2 };
     for mut bench in benches(geometry) {
         let _ = run(&mut bench);
     }
@@ -109,13 +109,18 @@ fn erase_is_one_unit() {
 
 #[test]
 fn geometry_rules() {
-    let good = Geometry { granularity: 0, s: 1, c: 1, size: 64, count: 1 };
+    let good = Geometry { granularity: 0, s: 1, c: 1, strict: 0, size: 64, count: 1 };
     assert!(good.good());
     assert!(Geometry { size: 256, ..good }.good());
     assert!(Geometry { size: 65_536, s: 2, count: 256, ..good }.good());
     assert!(Geometry { count: 262_144, c: 3, ..good }.good());
+    assert!(Geometry { granularity: 1, strict: 1, ..good }.good());
+    assert!(Geometry { granularity: 4, strict: 1, ..good }.good());
     let bad = [
         Geometry { granularity: 2, ..good },
+        Geometry { strict: 1, ..good },
+        Geometry { granularity: 1, strict: 2, ..good },
+        Geometry { granularity: 4, strict: 257, ..good },
         Geometry { s: 0, ..good },
         Geometry { s: 4, ..good },
         Geometry { c: 4, ..good },

@@ -5,7 +5,7 @@ mod bench;
 use bench::{benches, Bench};
 use harness::{geometry::Geometry, op::Op};
 
-const A: Geometry = Geometry { granularity: 0, s: 1, c: 1, size: 256, count: 4 };
+const A: Geometry = Geometry { granularity: 0, s: 1, c: 1, strict: 0, size: 256, count: 4 };
 const B: Geometry = Geometry { granularity: 4, ..A };
 const C: Geometry = Geometry { granularity: 1, ..A };
 

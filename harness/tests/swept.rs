@@ -333,7 +333,7 @@ fn larger_stores_with_many_twins_far_apart_end_alike() {
     let mut r = Random::new(9);
     for (size, count) in [(1_024, 12), (2_048, 9), (4_096, 6)] {
         for (granularity, s) in [(0, 2), (1, 3), (4, 2)] {
-            let g = Geometry { granularity, s, c: r.between(1, 3) as u8, size, count };
+            let g = Geometry { granularity, s, c: r.between(1, 3) as u8, strict: 0, size, count };
             let before = Large::new(&mut r, g).store.flash;
             let (twins, unreferred) = left_over(&before);
             let metadata = listed(&before, METADATA).len();

@@ -17,7 +17,7 @@ fn stores(test: impl Fn(&Flash)) {
     for n in 0..600 {
         let (size, count) = [(64, 4), (128, 4), (256, 4), (260, 3)][n % 4];
         let s = if size > 256 { 2 } else { r.between(1, 3) as u8 };
-        let g = Geometry { granularity: r.pick(&[0, 1, 4]), s, c: r.between(1, 3) as u8, size, count };
+        let g = Geometry { granularity: r.pick(&[0, 1, 4]), s, c: r.between(1, 3) as u8, strict: 0, size, count };
         test(&store(&mut r, g).flash);
     }
 }

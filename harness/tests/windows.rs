@@ -42,7 +42,7 @@ fn file(at: [Place; 3], content: &[u8]) -> File<'_> {
 
 /// Blocks of these kinds, on each side.
 fn blocks(granularity: u8, kinds: [u32; 3]) -> Vec<Bench> {
-    let mut made = sides(Geometry { granularity, s: 1, c: 1, size: 64, count: 3 });
+    let mut made = sides(Geometry { granularity, s: 1, c: 1, strict: 0, size: 64, count: 3 });
     for b in &mut made {
         for (block, kind) in kinds.into_iter().enumerate() {
             b.ask(Op::BlockHeaderWrite, &[block as u32, kind, 0], &[], &[]).unwrap();
@@ -323,7 +323,7 @@ fn a_street_behind_a_cut_entry_is_not_found() {
 /// norfs's `try_to_make_space` formats a block without moving anything where the two numbers are equal.
 #[test]
 fn a_block_that_is_half_full_has_as_much_to_free_as_is_used() {
-    for mut b in sides(Geometry { granularity: 0, s: 1, c: 1, size: 64, count: 1 }) {
+    for mut b in sides(Geometry { granularity: 0, s: 1, c: 1, strict: 0, size: 64, count: 1 }) {
         b.ask(Op::BlockHeaderWrite, &[0, 3, 0], &[], &[]).unwrap();
         b.ask(Op::WriteTo, &[0, 8, 0x8E], &[], &[0x41; 21]).unwrap();
         assert_eq!(b.ask(Op::ScanBlock, &[0], &[], &[]).unwrap().values[2], 32, "{}", b.side);

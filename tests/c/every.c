@@ -116,12 +116,15 @@ static void files(void)
 static uint8_t before[sizeof image], swept[sizeof image];
 static uint32_t words[sizeof image];
 
-/* A new store: a name in block 3 and its metadata in block 1, each twice, of which both refer to the first name. */
+/* A new store: a name in block 3 and its metadata in block 1, each twice, of which both refer to the first name. Under the strict mark it is not
+ * swept. */
 static void left_over(void)
 {
     static const uint8_t name[4] = {'n', 'a', 'm', 'e'};
     uint8_t payload[7] = {7, 0, 0, 0, 3, 0, 0};
     struct stumpchoir_iterator named, file;
+    const uint8_t answer = g.strict ? STUMPCHOIR_DANGLING : STUMPCHOIR_DONE;
+    const uint32_t one = !g.strict;
     uint32_t i, twins = 0, unreferred = 0;
     uint64_t n;
     stumpchoir_format_storage(&g, POWER);
@@ -139,13 +142,14 @@ static void left_over(void)
         file.offset += (uint32_t)n;
     }
     memcpy(before, image, sizeof image);
-    if (CALL(sweep, POWER, &twins, &unreferred) || twins != 1 || unreferred != 1) {
+    if (CALL(sweep, POWER, &twins, &unreferred) != answer || twins != one || unreferred != one) {
         fprintf(stderr, "what is left over is not swept\n");
         exit(1);
     }
     memcpy(swept, image, sizeof image);
     memcpy(image, before, sizeof image);
-    if (CALL(sweep_with, POWER, &twins, &unreferred, words, sizeof image) || twins != 1 || unreferred != 1 || memcmp(image, swept, sizeof image)) {
+    if (CALL(sweep_with, POWER, &twins, &unreferred, words, sizeof image) != answer || twins != one || unreferred != one
+        || memcmp(image, swept, sizeof image)) {
         fprintf(stderr, "with words it is swept otherwise\n");
         exit(1);
     }
@@ -174,15 +178,15 @@ static void *every(void *none)
 
 int main(void)
 {
-    static const uint32_t kinds[3] = {STUMPCHOIR_BIT, STUMPCHOIR_WORD1, STUMPCHOIR_WORD4};
+    static const uint32_t kinds[5][2] = {{STUMPCHOIR_BIT, 0}, {STUMPCHOIR_WORD1, 0}, {STUMPCHOIR_WORD4, 0}, {STUMPCHOIR_WORD1, 1}, {STUMPCHOIR_WORD4, 1}};
     size_t deepest = 0;
     int i;
-    for (i = 0; i < 3; i++) {
+    for (i = 0; i < 5; i++) {
         uint8_t *stack;
         size_t at = 0;
         pthread_attr_t attr;
         pthread_t thread;
-        struct stumpchoir_geometry laid = {kinds[i], 2, 1, 0, SIZE, COUNT};
+        struct stumpchoir_geometry laid = {kinds[i][0], 2, 1, kinds[i][1], SIZE, COUNT};
         g = laid;
         called = 0;
         if (posix_memalign((void **)&stack, 4096, STACK) != 0)

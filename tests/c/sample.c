@@ -1,4 +1,5 @@
-/* A small store: formatted, written, listed, moved, and written to in one call. Compiled as C99 and as C++ by tools/c-sample. */
+/* A small store: formatted, written, listed, moved, and written to in one call; and a chip that programs no unit twice. Compiled as C99 and
+ * as C++ by tools/c-sample. */
 #include "stumpchoir.h"
 
 #include <stdio.h>
@@ -33,6 +34,62 @@ static void list(uint32_t block)
     }
 }
 
+/* Numbers that no geometry has are 6, also where their low byte would do; the strict mark goes with words only. */
+static void geometries(void)
+{
+    struct stumpchoir_geometry g = geometry;
+    g.granularity = 256;
+    expect("granularity 256", stumpchoir_check(&g, image, sizeof image), STUMPCHOIR_BAD_GEOMETRY);
+    g = geometry;
+    g.strict = 1;
+    expect("strict 1 with Bit", stumpchoir_check(&g, image, sizeof image), STUMPCHOIR_BAD_GEOMETRY);
+    for (g.granularity = STUMPCHOIR_WORD1; g.granularity <= STUMPCHOIR_WORD4; g.granularity += STUMPCHOIR_WORD4 - STUMPCHOIR_WORD1) {
+        g.strict = 1;
+        expect("strict 1", stumpchoir_check(&g, image, sizeof image), STUMPCHOIR_DONE);
+        g.strict = 2;
+        expect("strict 2", stumpchoir_check(&g, image, sizeof image), STUMPCHOIR_BAD_GEOMETRY);
+        g.strict = 257;
+        expect("strict 257", stumpchoir_check(&g, image, sizeof image), STUMPCHOIR_BAD_GEOMETRY);
+    }
+}
+
+/* Stores bytes at offset 40 of block 1 with power for some units: what it answers, how many are left, and the two words there then. */
+static void store(const struct stumpchoir_geometry *g, const uint8_t *bytes, size_t len, uint32_t units, uint32_t answer, uint32_t left, const char *words)
+{
+    expect("store", stumpchoir_write(g, image, sizeof image, true, &units, 1, 40, bytes, len), answer);
+    expect("units left", units, left);
+    expect("the words differ", memcmp(image + 256 + 40, words, 8) != 0, 0);
+}
+
+/* A chip that programs no word twice; a word all FF counts as none. At the end the same without the mark. */
+static void strict_chip(void)
+{
+    const uint8_t bytes[2] = {0x0F, 0x55}, more[5] = {0xFF, 0xFF, 0xFF, 0x00, 0x11}, type_word[2] = {0xFF, 0x00};
+    struct stumpchoir_geometry chip = {STUMPCHOIR_WORD4, 1, 1, 1, 256, 4};
+    uint64_t total = 9;
+    memset(image, 0xFF, sizeof image);
+    expect("strict format", stumpchoir_format_storage(&chip, image, sizeof image, false, NULL), STUMPCHOIR_DONE);
+    expect("strict type", stumpchoir_set_block_type(&chip, image, sizeof image, false, NULL, 1, STUMPCHOIR_KIND_DATA), STUMPCHOIR_DONE);
+    expect("a second type", stumpchoir_set_block_type(&chip, image, sizeof image, false, NULL, 1, STUMPCHOIR_KIND_METADATA), STUMPCHOIR_NOT_ERASED);
+    expect("and none", stumpchoir_set_block_type(&chip, image, sizeof image, false, NULL, 1, STUMPCHOIR_KIND_UNDEFINED), STUMPCHOIR_DONE);
+
+    store(&chip, bytes, 2, 1, STUMPCHOIR_DONE, 0, "\x0F\x55\xFF\xFF\xFF\xFF\xFF\xFF");
+    store(&chip, bytes, 2, 1, STUMPCHOIR_NOT_ERASED, 1, "\x0F\x55\xFF\xFF\xFF\xFF\xFF\xFF");
+    store(&chip, bytes, 2, 0, STUMPCHOIR_NOT_ERASED, 0, "\x0F\x55\xFF\xFF\xFF\xFF\xFF\xFF");
+    store(&chip, more, 3, 1, STUMPCHOIR_DONE, 0, "\x0F\x55\xFF\xFF\xFF\xFF\xFF\xFF");
+    store(&chip, more, 5, 2, STUMPCHOIR_NOT_ERASED, 2, "\x0F\x55\xFF\xFF\xFF\xFF\xFF\xFF");
+    expect("the range first", stumpchoir_write(&chip, image, sizeof image, false, NULL, 1, 41, more, 4), STUMPCHOIR_IO);
+
+    /* a free place whose type word is programmed */
+    expect("type word", stumpchoir_write(&chip, image, sizeof image, false, NULL, 1, 60, type_word, 2), STUMPCHOIR_DONE);
+    expect("write_to", stumpchoir_write_to(&chip, image, sizeof image, false, NULL, 1, 60, STUMPCHOIR_TYPE_FILE_DATA, bytes, 2, &total), STUMPCHOIR_NOT_ERASED);
+    expect("no total size", (uint32_t)total, 9);
+    expect("format_block", stumpchoir_format_block(&chip, image, sizeof image, false, NULL, 1), STUMPCHOIR_DONE);
+    store(&chip, bytes, 2, 1, STUMPCHOIR_DONE, 0, "\x0F\x55\xFF\xFF\xFF\xFF\xFF\xFF");
+    chip.strict = 0;
+    store(&chip, more, 5, 2, STUMPCHOIR_DONE, 0, "\x0F\x55\xFF\x00\x11\xFF\xFF\xFF");
+}
+
 int main(void)
 {
     const uint8_t payload[3] = {0x41, 0x42, 0x43};
@@ -40,7 +97,6 @@ int main(void)
     const uint32_t records[12] = {STUMPCHOIR_TYPE_FILE_NAME, 8, 0, 1, STUMPCHOIR_TYPE_FILE_DATA, 12, 1, 2, STUMPCHOIR_TYPE_FILE_DATA, 17, 1, 3};
     struct stumpchoir_header header, copy;
     struct stumpchoir_record table[4];
-    struct stumpchoir_geometry bad = geometry;
     uint64_t total = 0;
     uint32_t units = 6, done = 9, i;
 
@@ -75,15 +131,12 @@ int main(void)
     expect("records done", done, 2);
     list(0);
 
-    /* an empty buffer may be null; numbers that no geometry has are 6, also behind the 32 bits of a byte */
+    /* an empty buffer may be null */
     expect("write of nothing", stumpchoir_write(&geometry, image, sizeof image, false, NULL, 1, 8, NULL, 0), STUMPCHOIR_DONE);
     expect("a batch of nothing", stumpchoir_write_all(&geometry, image, sizeof image, false, NULL, 9, NULL, 0, NULL, 0, &done), STUMPCHOIR_DONE);
     expect("read of nothing", stumpchoir_read(&geometry, image, sizeof image, 1, 8, NULL, 0), STUMPCHOIR_DONE);
-    bad.granularity = 256;
-    expect("granularity 256", stumpchoir_check(&bad, image, sizeof image), STUMPCHOIR_BAD_GEOMETRY);
-    bad = geometry;
-    bad.reserved = 1;
-    expect("reserved 1", stumpchoir_check(&bad, image, sizeof image), STUMPCHOIR_BAD_GEOMETRY);
+    geometries();
     expect("a short image", stumpchoir_check(&geometry, image, sizeof image - 1), STUMPCHOIR_BAD_ROOM);
+    strict_chip();
     return 0;
 }

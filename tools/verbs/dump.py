@@ -1,7 +1,7 @@
 """Dumps that are longer than a program's buffer, handed to it in parts.
 
-01 gives the programs a buffer of 65,536 bytes, and a geometry may have 16,777,216. What a program says of a block depends on the widths and
-on the bytes of that block alone, so a part is some of the blocks behind a record with the same widths and their number as the count."""
+01 gives the programs a buffer of 65,536 bytes, and a geometry may have 16,777,216. What a program says of a block depends on granularity, widths
+and strict mark and on the bytes of that block alone, so a part is some of the blocks behind a record with the same and their number as the count."""
 import os
 import struct
 import tempfile
@@ -16,7 +16,7 @@ class Dump:
     """A geometry record that a program has found sound, and the image that it describes."""
 
     def __init__(self, record, image):
-        self.widths = record[:4]
+        self.laid = record[:4]
         self.size, self.count = struct.unpack_from('<II', record, 4)
         self.image = image
 
@@ -27,7 +27,7 @@ class Dump:
         """What the program NAME says of these blocks, which it sees as 0, 1, 2 .."""
         with tempfile.TemporaryDirectory(prefix='stumpchoir-') as room:
             with open(os.path.join(room, 'geometry.bin'), 'wb') as f:
-                f.write(self.widths + struct.pack('<III', self.size, len(blocks), 0))
+                f.write(self.laid + struct.pack('<III', self.size, len(blocks), 0))
             with open(os.path.join(room, 'image.bin'), 'wb') as f:
                 f.writelines(self.block(n) for n in blocks)
             return program.run(name, words, room)

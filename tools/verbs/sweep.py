@@ -14,7 +14,8 @@ a folder's name may begin with a dash.
 
 What stays: a street whose two metadata objects differ, as a cut in changing it or in moving a content leaves them (`streets` shows it as
 `twice`); unfinished objects; and the room of what was deleted, which only the collector gets back. A store in which a block cannot be listed
-(`refused 2`), or in which metadata refers to what is not there (`refused 14`), is not swept; standard error says where, and the status is 2."""
+(`refused 2`), or in which metadata refers to what is not there (`refused 14`), is not swept, nor is one with the strict mark (`refused 14` too);
+standard error says why and where, and the status is 2."""
 import argparse
 import os
 import tempfile

@@ -5,3 +5,4 @@ pub mod Cut
 pub mod Scanned
 pub mod Resumed
 pub mod Instance
+pub mod Strict

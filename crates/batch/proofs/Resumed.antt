@@ -38,7 +38,7 @@ records-drop (suc n) (t ∷ o ∷ []) = ap recordsIn (drop-short (perRecord * su
 records-drop (suc n) (t ∷ o ∷ a ∷ []) = ap recordsIn (drop-short (perRecord * suc n) (t ∷ o ∷ a ∷ []) (omega arith))
 records-drop (suc n) (t ∷ o ∷ a ∷ m ∷ ns) = let e : perRecord * suc n ≡ suc (suc (suc (suc (perRecord * n)))) = omega arith in rw e (records-drop n ns)
 
-module _ (g : Geometry) (b : ℕ) (payload : List ℕ) where
+module _ (g : Geometry) (b : ℕ) (payload : List ℕ) (plain : g .strict ≡ 1 → ⊥) where
   -- a record with power, also over what a cut left of it: the others go on behind it, whole
   record-again : (e : ℕ) (r : Record) (rs : List Record) (img : List ℕ) → Ready g b e payload img → Fits g payload e r → (j k : ℕ) → k < unitsForOne g payload r
       → oneByOne Absent g b payload j (r ∷ rs) (afterRecord g b payload r img k) ≡ oneByOne Absent g b payload (j + 1) rs (afterRecord g b payload r img (unitsForOne g payload r))
@@ -46,7 +46,7 @@ module _ (g : Geometry) (b : ℕ) (payload : List ℕ) where
   record-again e r rs img v f j k c =
       ap (λ (x : End ℕ). afterOne j x (λ f₁ m. oneByOne f₁ g b payload (j + 1) rs m))
       (written-by g b payload r Absent (afterRecord g b payload r img k) (f .lent) (f .typed)
-      ∙ write-again g (placeOf b r) (typeIn r) (bytesOf payload r) img (room-of g b payload e r img v f) (f .aligned) k (omega arith))
+      ∙ write-again g (placeOf b r) (typeIn r) (bytesOf payload r) img (room-of g b payload e r img v f) (f .aligned) plain k (omega arith))
 
   powered : (rs : List Record) (e j : ℕ) (img : List ℕ) → Ready g b e payload img → Rising g payload e rs
       → oneByOne Absent g b payload j rs img ≡ endOf (done tt) Absent (allAfter g b payload rs img) (j + length rs)
@@ -90,7 +90,7 @@ module _ (g : Geometry) (b : ℕ) (payload : List ℕ) where
           ∙ powered rs (behindOne g payload r) (j + 1) (afterRecord g b payload r img (unitsForOne g payload r)) (ready-on g b payload e r img v (h .0) (unitsForOne g payload r)) (h .1)
           ∙ ap (λ (n : ℕ). endOf (done tt) Absent (allAfter g b payload (r ∷ rs) img) n) z)
 
-module _ (g : Geometry) (b e : ℕ) (records payload img : List ℕ) (t : Takes g records img) (v : Ready g b e payload img) (h : Rising g payload e (recordsIn records)) (k : ℕ) where
+module _ (g : Geometry) (b e : ℕ) (records payload img : List ℕ) (t : Takes g records img) (v : Ready g b e payload img) (h : Rising g payload e (recordsIn records)) (plain : g .strict ≡ 1 → ⊥) (k : ℕ) where
   abbrev rs : List Record
   rs = recordsIn records
 
@@ -112,13 +112,13 @@ module _ (g : Geometry) (b e : ℕ) (records payload img : List ℕ) (t : Takes 
   rest-is =
       one-by-one Absent g b (restOf records count) payload (leftAt g b records payload img k) rest-takes
       ∙ ap₂ (λ (xs : List Record) (x : BatchEnd). oneByOne Absent g b payload 0 xs (x .state .image)) (records-drop count records) (as-one g b e records payload img t v h k)
-      ∙ resumed g b payload rs e 0 0 k img v h
+      ∙ resumed g b payload plain rs e 0 0 k img v h
       ∙ ap₂ (λ (m : List ℕ) (n : ℕ). endOf (done tt) Absent m n)
-      (ap (λ (x : BatchEnd). x .state .image) (sym (one-by-one Absent g b records payload img t ∙ powered g b payload rs e 0 img v h))) (zero-add (length rs - count))
+      (ap (λ (x : BatchEnd). x .state .image) (sym (one-by-one Absent g b records payload img t ∙ powered g b payload plain rs e 0 img v h))) (zero-add (length rs - count))
 
 pub batch-resumes : BatchResumes
 unfolding BatchResumes
-batch-resumes g b e records payload img t v h k =
-    ap (λ (n : ℕ). batch Absent g b (restOf records n) payload (leftAt g b records payload img k)) (done-is g b e records payload img t v h k)
-    ∙ rest-is g b e records payload img t v h k
-    ∙ ap (λ (n : ℕ). endOf (done tt) Absent (batch Absent g b records payload img .state .image) (length (recordsIn records) - n)) (sym (done-is g b e records payload img t v h k))
+batch-resumes g b e records payload img t v h plain k =
+    ap (λ (n : ℕ). batch Absent g b (restOf records n) payload (leftAt g b records payload img k)) (done-is g b e records payload img t v h plain k)
+    ∙ rest-is g b e records payload img t v h plain k
+    ∙ ap (λ (n : ℕ). endOf (done tt) Absent (batch Absent g b records payload img .state .image) (length (recordsIn records) - n)) (sym (done-is g b e records payload img t v h plain k))

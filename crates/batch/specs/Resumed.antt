@@ -1,4 +1,4 @@
--- After a cut, what is left of a batch, from the number done on and with power: it ends as the uncut batch does, byte for byte.
+-- Without the strict mark: after a cut, what is left of a batch, from the number done on and with power, ends as the uncut batch does, byte for byte.
 use mathlib.Core.Path.{_≡_}
 use mathlib.Core.List.{List}
 use Prim.Native.Nat.{ℕ, _-_, _*_}
@@ -15,7 +15,7 @@ restOf records n = drop (perRecord * n) records
 
 unfoldable pub BatchResumes : Type 0
 BatchResumes =
-    (g : Geometry) (b e : ℕ) (records payload img : List ℕ) → Takes g records img → Ready g b e payload img → Rising g payload e (recordsIn records) → (k : ℕ)
+    (g : Geometry) (b e : ℕ) (records payload img : List ℕ) → Takes g records img → Ready g b e payload img → Rising g payload e (recordsIn records) → (g .strict ≡ 1 → ⊥) → (k : ℕ)
     → let cut = batch (Units k) g b records payload img in
     batch Absent g b (restOf records (numberDone cut)) payload (cut .state .image)
     ≡ endOf (done tt) Absent (batch Absent g b records payload img .state .image) (length (recordsIn records) - numberDone cut)

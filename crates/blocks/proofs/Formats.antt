@@ -1,12 +1,10 @@
 -- A format: bytes that are FF, what a reachable block allows, the plan and its stores, and the loop over blocks.
 use mathlib.Core.Path.{_≡_, refl, sym, ap, _∙_}
 use Prim.Native.Nat.{ℕ, suc, _+_, _-_, _*_, _%_, _≤_, _<_}
-use native.Mathlib.Numerals.{add-one}
 use native.Mathlib.Omega.{arith}
 use mathlib.Core.Bool.{Bool, true, false, _&&_}
 use mathlib.Core.List.{List}
-use lib.ListN.{length, getD, take, drop}
-use lib.Seq.{drop-cons, drop-length}
+use lib.ListN.{length, take}
 use lib.Dec.{leb, ltb, eqb}
 use borrow.Author.Tests.{ne-eqb, le-leb, lt-ltb, ltb-true}
 use Rattle.medium.specs.declared.granularity.Granularity.{Granularity}
@@ -17,29 +15,20 @@ use Rattle.medium.specs.Granularity.{pick, longestBlockHeader, widthOf, alignOf
 use Rattle.medium.specs.Geometry.{geometryOk, admit, checkOf}
 use Rattle.medium.specs.Units.{under, blank}
 use Rattle.medium.specs.Operation.{Answer, done, refused, andThen, run, ask, _>>=_}
+use Rattle.medium.specs.Strict.{allFF}
 use Rattle.medium.specs.Medium.{readable, writable, erasable, readAt, lent}
 use Rattle.medium.proofs.Runs.{run-ask, ask-on, ask-stop, test-on, test-stop}
 use Rattle.medium.proofs.Bytes.{length-erased}
 use Rattle.medium.proofs.Checks.{Fine, sound-is, admitted, passed, admit-pass, picked}
 use Rattle.medium.proofs.Ranges.{read-lent, read-refused}
 use Rattle.medium.proofs.Places.{headed, even-align}
+use Rattle.medium.proofs.Strict.{unmarked}
 use Rattle.medium.proofs.Writes.{write-passed, erase-passed}
 use Rattle.blocks.specs.declared.header.BlockType.the-variants.{Undefined}
 use Rattle.blocks.specs.declared.header.BlockHeaderKind.the-variants.{Known}
 use Rattle.blocks.specs.BlockHeader.{wideBytes, headerBytes, writeHeader, headerIn, blockHeaderAt}
-use Rattle.blocks.specs.Format.{allFF, dataLength, dataEmptyAt, Planned, keep, label, renew, planOf, planAt, undefined, labelling, renewing, carryOut, formatBlock, formatFrom, formatStorage}
+use Rattle.blocks.specs.Format.{dataLength, dataEmptyAt, Planned, keep, label, renew, planOf, planAt, undefined, labelling, renewing, carryOut, formatBlock, formatFrom, formatStorage}
 use Rattle.blocks.proofs.Headers.{readable-of}
-
--- ---- bytes that are FF
-
-pub erased-more : (l : List ℕ) (i : ℕ) → i < length l → getD l i 0 ≡ 255 → allFF (drop i l) ≡ allFF (drop (i + 1) l)
-erased-more l i h e = rw (drop-cons l i 0, e, add-one)
-
-pub erased-not : (l : List ℕ) (i : ℕ) → i < length l → (getD l i 0 ≡ 255 → ⊥) → allFF (drop i l) ≡ false
-erased-not l i h n = rw (drop-cons l i 0, ne-eqb _ _ n)
-
-pub erased-end : (l : List ℕ) (i : ℕ) → i ≡ length l → allFF (drop i l) ≡ true
-erased-end l i e = rw (e, drop-length l)
 
 -- ---- a block that can be reached can be read, every range of it
 
@@ -140,15 +129,15 @@ label-writes g b n room e =
     zero-mod Word1 = omega arith
     zero-mod Word4 = omega arith
 
-label-done : (g : Geometry) (b n : ℕ) (img : List ℕ) → erasable g (length img) b ≡ 0 → labelling g b n img .answer ≡ done tt
+label-done : (g : Geometry) (b n : ℕ) (img : List ℕ) → (g .strict ≡ 1 → ⊥) → erasable g (length img) b ≡ 0 → labelling g b n img .answer ≡ done tt
 unfolding labelling writeHeader
-label-done g b n img e = rw (write-passed g b 0 (headerBytes g (undefined n)) img (label-writes g b n (length img) e))
+label-done g b n img off e = rw (write-passed g b 0 (headerBytes g (undefined n)) img (unmarked g b 0 (headerBytes g (undefined n)) img off ∙ label-writes g b n (length img) e))
 
-renew-done : (g : Geometry) (b n : ℕ) (img : List ℕ) → erasable g (length img) b ≡ 0 → renewing g b n img .answer ≡ done tt
+renew-done : (g : Geometry) (b n : ℕ) (img : List ℕ) → (g .strict ≡ 1 → ⊥) → erasable g (length img) b ≡ 0 → renewing g b n img .answer ≡ done tt
 unfolding renewing _>>=_
-renew-done g b n img e =
+renew-done g b n img off e =
     let l : length (under (b * g .size) (blank (g .size)) img) ≡ length img = length-erased (b * g .size) (g .size) img in
-    rw (erase-passed g b img e) (label-done g b n (under (b * g .size) (blank (g .size)) img) (rw l e))
+    rw (erase-passed g b img e) (label-done g b n (under (b * g .size) (blank (g .size)) img) off (rw l e))
 
 -- the answer with power is that of the plan's stores
 format-answer : (g : Geometry) (b : ℕ) (img : List ℕ) (p : Planned) → planAt g b img ≡ done p → formatBlock g b img .answer ≡ carryOut g b p img .answer
@@ -170,11 +159,12 @@ pub format-refused : (g : Geometry) (b : ℕ) (img : List ℕ) (k : ℕ) → pla
 unfolding formatBlock _>>=_ ask
 format-refused g b img k e = rw e
 
-pub format-done : (g : Geometry) (b : ℕ) (img : List ℕ) (p : Planned) → planAt g b img ≡ done p → formatBlock g b img .answer ≡ done tt
+-- without the mark a format that is planned is done
+pub format-done : (g : Geometry) (b : ℕ) (img : List ℕ) (p : Planned) → (g .strict ≡ 1 → ⊥) → planAt g b img ≡ done p → formatBlock g b img .answer ≡ done tt
 unfolding ask
-format-done g b img p e = format-answer g b img p e ∙ go p (planned g b img p e)
+format-done g b img p off e = format-answer g b img p e ∙ go p (planned g b img p e)
   where
     go : (p : Planned) → erasable g (length img) b ≡ 0 → carryOut g b p img .answer ≡ done tt
     go keep r = refl
-    go label r = label-done g b 0 img r
-    go (renew n) r = renew-done g b n img r
+    go label r = label-done g b 0 img off r
+    go (renew n) r = renew-done g b n img off r

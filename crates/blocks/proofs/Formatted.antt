@@ -15,13 +15,15 @@ use Rattle.medium.specs.Granularity.{pick, longestBlockHeader, widthOf, alignOf
 use Rattle.medium.specs.Geometry.{checkOf, address}
 use Rattle.medium.specs.Units.{under, blank}
 use Rattle.medium.specs.Operation.{Answer, done, refused, andThen, End, run}
-use Rattle.medium.specs.Medium.{part, readable, erasable, readAt, write, erase}
+use Rattle.medium.specs.Strict.{allFF}
+use Rattle.medium.specs.Medium.{part, readable, erasable, readAt, write, erase, storable}
 use Rattle.medium.proofs.Runs.{run-bind, run-ask, run-done, leb-is}
 use Rattle.medium.proofs.Bytes.{length-part, getD-part, part-is, length-erased}
 use Rattle.medium.proofs.Split.{part-add}
 use Rattle.medium.proofs.Padding.{AreBytes, cons-bytes, append-bytes, take-bytes, ff-bytes}
 use Rattle.medium.proofs.Frame.{run-long, write-beside}
 use Rattle.medium.proofs.Stores.{erase-run}
+use Rattle.medium.proofs.Strict.{ff-all, all-ff, free-store, storable-yes}
 use Rattle.medium.proofs.Erased.{erased-at, written-reads}
 use Rattle.medium.proofs.Places.{headed, laid, even-align}
 use Rattle.medium.proofs.Checks.{Fine, fine-of-check}
@@ -41,7 +43,7 @@ use Rattle.blocks.specs.declared.header.BlockHeaderKind.{BlockHeaderKind
 use Rattle.blocks.specs.declared.header.BlockHeaderKind.the-variants.{Empty, Unknown, Known}
 use Rattle.blocks.specs.declared.header.BlockHeader.{BlockHeader}
 use Rattle.blocks.specs.BlockHeader.{typeIf, layoutByte, around, wideBytes, headerBytes, writeHeader, kindIn, eraseCountIn, headerIn, blockHeaderAt}
-use Rattle.blocks.specs.Format.{allFF, dataLength, dataEmptyAt, Planned, keep, label, renew, again, planEmpty, planUndefined, planKnown, planOf, planAt, undefined, labelling, renewing, carryOut, formatBlock}
+use Rattle.blocks.specs.Format.{dataLength, dataEmptyAt, Planned, keep, label, renew, again, planEmpty, planUndefined, planKnown, planOf, planAt, undefined, labelling, renewing, carryOut, formatBlock}
 use Rattle.blocks.specs.Scan.{scanBlock}
 use Rattle.blocks.specs.Formatted.{HeaderReadsBack, countBy, plannedCount, freshRecord, FormattedScans}
 use Rattle.blocks.proofs.Headers.{bit-small, readable-of, check-of-header}
@@ -51,18 +53,8 @@ use Rattle.blocks.proofs.ReadBack.{header-back, header-ff}
 
 -- ---- an Undefined block with nothing behind its header
 
--- bytes that are all FF are FF
-ff-all : (l : List ℕ) (i : ℕ) → allFF l ≡ true → i < length l → getD l i 0 ≡ 255
-ff-all [] i e h = absurd (omega arith)
-ff-all (x ∷ l) i e h = go (eqb x 255) refl e i h (λ j p k. ff-all l j p k)
-  where
-    go : (t : Bool) → eqb x 255 ≡ t → (t && allFF l) ≡ true → (i : ℕ) → i < suc (length l) → ((j : ℕ) → allFF l ≡ true → j < length l → getD l j 0 ≡ 255) → getD (x ∷ l) i 0 ≡ 255
-    go true q p zero k more = eqb-true _ _ q
-    go true q p (suc j) k more = more j p (omega arith)
-    go false q p j k more = absurd (false≢true p)
-
 -- what stands behind a header is FF
-data-ff : (g : Geometry) (b : ℕ) (img : List ℕ) → dataEmptyAt g b img ≡ done true → (o : ℕ) → blockHeader (g .granularity) ≤ o → o < g .size → getD img (address g b o) 0 ≡ 255
+pub data-ff : (g : Geometry) (b : ℕ) (img : List ℕ) → dataEmptyAt g b img ≡ done true → (o : ℕ) → blockHeader (g .granularity) ≤ o → o < g .size → getD img (address g b o) 0 ≡ 255
 unfolding dataEmptyAt
 data-ff g b img e o lo hi = go (readAt g b (blockHeader (g .granularity)) (dataLength g) img) refl e
   where
@@ -162,12 +154,8 @@ header-bytes g n hs hc =
     (omega arith) (omega arith) l (type-byte (g .granularity) 3) (type-byte (g .granularity) 8))
 
 -- each byte of a block is FF
-abbrev Blank : Geometry → ℕ → List ℕ → Type 0
+abbrev pub Blank : Geometry → ℕ → List ℕ → Type 0
 Blank g b img = (o : ℕ) → o < g .size → getD img (address g b o) 0 ≡ 255
-
-all-ff : (n : ℕ) → allFF (replicate n 255) ≡ true
-all-ff zero = refl
-all-ff (suc n) = all-ff n
 
 module _ (g : Geometry) (b n : ℕ) (img : List ℕ) (reach : erasable g (length img) b ≡ 0) (ff : Blank g b img) (small : n < 4294967296) where
   abbrev after : List ℕ
@@ -190,8 +178,19 @@ module _ (g : Geometry) (b n : ℕ) (img : List ℕ) (reach : erasable g (length
       reached g (length img) b o m (readable g (length img) b o m) refl
       (readable-within g (length img) b o m (reach-checked g (length img) b reach) (reach-below g (length img) b (erasable g (length img) b) refl reach) h) .ends
 
+  header-whole : alignOf (widthOf (g .granularity)) (length (headerBytes g (undefined n))) ≡ blockHeader (g .granularity)
+  header-whole = ap (alignOf (widthOf (g .granularity))) (length-header g n) ∙ even-align (g .granularity) (blockHeader (g .granularity)) (headed (g .granularity) .block-even)
+
   room : blockHeader (g .granularity) ≤ g .size
   room = omega (arith, sound .sound .least, headed (g .granularity) .block-short)
+
+  -- its bytes are FF, so the header can be stored there under the mark too
+  pub label-stores : storable g b 0 (headerBytes g (undefined n)) img ≡ 0
+  label-stores =
+      storable-yes g b 0 (headerBytes g (undefined n)) img (label-writes g b n (length img) reach)
+      (λ _. free-store (widthOf (g .granularity)) (address g b 0) (headerBytes g (undefined n)) img
+      (λ i k. let q : address g b 0 + i ≡ address g b i = omega arith in ap (λ (j : ℕ). getD img j 0) q ∙ ff i (omega (arith, header-whole, room)))
+      (reaches 0 (alignOf (widthOf (g .granularity)) (length (headerBytes g (undefined n)))) (omega (arith, header-whole, room))))
 
   header-part : part (address g b 0) (blockHeader (g .granularity)) after ≡ headerBytes g (undefined n)
   header-part =
@@ -200,12 +199,12 @@ module _ (g : Geometry) (b n : ℕ) (img : List ℕ) (reach : erasable g (length
       let e : part (address g b 0) (length (headerBytes g (undefined n))) img ≡ replicate (length (headerBytes g (undefined n))) 255 =
       part-is (address g b 0) (length (headerBytes g (undefined n))) img (replicate (length (headerBytes g (undefined n))) 255) (reaches 0 _ h) (length-replicate _ 255)
       (λ i k. let q : address g b 0 + i ≡ address g b i = omega arith in ap (λ (j : ℕ). getD img j 0) q ∙ ff i (omega (arith, h)) ∙ sym (getD-replicate _ i 255 0 k)) in
-      let r = written-reads g b 0 (headerBytes g (undefined n)) img (label-writes g b n (length img) reach) (header-bytes g n (sound .sound .s-most) (sound .sound .c-most)) e in
+      let r = written-reads g b 0 (headerBytes g (undefined n)) img label-stores (header-bytes g n (sound .sound .s-most) (sound .sound .c-most)) e in
       let w = within 0 (length (headerBytes g (undefined n))) h in
       let z : part (address g b 0) (length (headerBytes g (undefined n))) after ≡ headerBytes g (undefined n) = cc in
       rw l at z
 
-  labelled-header : blockHeaderAt g b after ≡ done (undefined n)
+  pub labelled-header : blockHeaderAt g b after ≡ done (undefined n)
   unfolding blockHeaderAt HeaderReadsBack
   labelled-header =
       let bh = blockHeader (g .granularity) in
@@ -217,13 +216,12 @@ module _ (g : Geometry) (b n : ℕ) (img : List ℕ) (reach : erasable g (length
       rw (within 0 longestBlockHeader (omega (arith, sound .sound .least)), s)
       (ap (λ (h : BlockHeader). done h) (header-back g (undefined n) (part (address g b 0 + blockHeader (g .granularity)) (longestBlockHeader - blockHeader (g .granularity)) after) small))
 
-  labelled-empty : dataEmptyAt g b after ≡ done true
+  pub labelled-empty : dataEmptyAt g b after ≡ done true
   unfolding dataEmptyAt
   labelled-empty =
       let bh = blockHeader (g .granularity) in
       let h : blockHeader (g .granularity) + dataLength g ≤ g .size = omega (arith, room) in
-      let a : alignOf (widthOf (g .granularity)) (length (headerBytes g (undefined n))) ≡ blockHeader (g .granularity) =
-      ap (alignOf (widthOf (g .granularity))) (length-header g n) ∙ even-align (g .granularity) (blockHeader (g .granularity)) (headed (g .granularity) .block-even) in
+      let a : alignOf (widthOf (g .granularity)) (length (headerBytes g (undefined n))) ≡ blockHeader (g .granularity) = header-whole in
       let stays : (i : ℕ) → i < dataLength g → getD after (address g b (blockHeader (g .granularity)) + i) 0 ≡ 255 =
       λ i k. let q : address g b (blockHeader (g .granularity)) + i ≡ address g b (blockHeader (g .granularity) + i) = omega arith in
       write-beside Absent g b 0 (headerBytes g (undefined n)) img (address g b (blockHeader (g .granularity)) + i) 0 (inr (omega (arith, a)))
@@ -255,7 +253,7 @@ renewed-scans g b n img e small =
 
 -- ---- what a plan tells of what was read
 
-abbrev Told : BlockHeaderKind → ℕ → Answer Bool → Answer Planned → Type 0
+abbrev pub Told : BlockHeaderKind → ℕ → Answer Bool → Answer Planned → Type 0
 Told k n e (done keep) = (k ≡ Known Undefined) × (e ≡ done true)
 Told k n e (done label) = (k ≡ Empty) × (n ≡ 4294967295) × (e ≡ done true)
 Told k n e (done (renew m)) = n < 4294967296 → m < 4294967296
@@ -273,7 +271,7 @@ again-tells k n e = go (eqb n 4294967295) refl
         more (inl x) h = omega arith
         more (inr x) h = absurd (eqb-false n 4294967295 q (omega arith))
 
-plan-tells : (k : BlockHeaderKind) (n : ℕ) (e : Answer Bool) → Told k n e (planOf k n e)
+pub plan-tells : (k : BlockHeaderKind) (n : ℕ) (e : Answer Bool) → Told k n e (planOf k n e)
 unfolding planOf planKnown
 plan-tells Empty n e = go (eqb n 4294967295) refl
   where
@@ -298,14 +296,14 @@ plan-tells (Known Undefined) n e = go e
 -- ---- a format
 
 module _ (g : Geometry) (b : ℕ) (img : List ℕ) (bytes : AreBytes img) (h : BlockHeader) (hd : blockHeaderAt g b img ≡ done h) where
-  abbrev raw : List ℕ
+  abbrev pub raw : List ℕ
   raw = part (address g b 0) longestBlockHeader img
 
   checked : checkOf g (length img) ≡ 0
   checked = check-of-header g b img h hd
 
   -- what was read
-  read-is : (h ≡ headerIn g raw) × (readable g (length img) b 0 longestBlockHeader ≡ 0)
+  pub read-is : (h ≡ headerIn g raw) × (readable g (length img) b 0 longestBlockHeader ≡ 0)
   unfolding blockHeaderAt
   read-is = go (readAt g b 0 longestBlockHeader img) refl hd
     where
@@ -321,20 +319,20 @@ module _ (g : Geometry) (b : ℕ) (img : List ℕ) (bytes : AreBytes img) (h : B
   there : b < g .count
   there = reached g (length img) b 0 longestBlockHeader (readable g (length img) b 0 longestBlockHeader) refl (read-is .1) .below
 
-  raw-at : (i : ℕ) → i < longestBlockHeader → getD raw i 0 ≡ getD img (address g b i) 0
+  pub raw-at : (i : ℕ) → i < longestBlockHeader → getD raw i 0 ≡ getD img (address g b i) 0
   raw-at i k = let q : address g b 0 + i ≡ address g b i = omega arith in getD-part (address g b 0) longestBlockHeader img i 0 k ∙ ap (λ (j : ℕ). getD img j 0) q
 
   raw-byte : (i : ℕ) → 4 ≤ i → i < 8 → getD raw i 0 < 256
   raw-byte i lo hi = rw (raw-at i (omega arith)) (bytes (address g b i))
 
-  count-small : h .«erase_count» < 4294967296
+  pub count-small : h .«erase_count» < 4294967296
   count-small =
       let c : h .«erase_count» ≡ eraseCountIn raw = ap (λ (x : BlockHeader). x .«erase_count») (read-is .0) in
       rw c
       (omega (arith, raw-byte 4 (omega arith) (omega arith), raw-byte 5 (omega arith) (omega arith), raw-byte 6 (omega arith) (omega arith), raw-byte 7 (omega arith) (omega arith)))
 
   -- an erased header over erased data is an erased block
-  blank-by : h .kind ≡ Empty → h .«erase_count» ≡ 4294967295 → dataEmptyAt g b img ≡ done true → Blank g b img
+  pub blank-by : h .kind ≡ Empty → h .«erase_count» ≡ 4294967295 → dataEmptyAt g b img ≡ done true → Blank g b img
   blank-by ek en ed o ho = go (leb-is (blockHeader (g .granularity)) o)
     where
       kind-is : kindIn g raw ≡ Empty
@@ -355,11 +353,11 @@ module _ (g : Geometry) (b : ℕ) (img : List ℕ) (bytes : AreBytes img) (h : B
   carried label t e = labelled-scans g b 0 img e (blank-by (t .0) (t .1) (t .2)) (omega arith)
   carried (renew m) t e = renewed-scans g b m img e (t count-small)
 
-plan-is : (g : Geometry) (b : ℕ) (img : List ℕ) (h : BlockHeader) → blockHeaderAt g b img ≡ done h → planAt g b img ≡ planOf (h .kind) (h .«erase_count») (dataEmptyAt g b img)
+pub plan-is : (g : Geometry) (b : ℕ) (img : List ℕ) (h : BlockHeader) → blockHeaderAt g b img ≡ done h → planAt g b img ≡ planOf (h .kind) (h .«erase_count») (dataEmptyAt g b img)
 unfolding planAt
 plan-is g b img h q = rw q
 
-plan-stops : (g : Geometry) (b : ℕ) (img : List ℕ) (r : ℕ) → blockHeaderAt g b img ≡ refused r → planAt g b img ≡ refused r
+pub plan-stops : (g : Geometry) (b : ℕ) (img : List ℕ) (r : ℕ) → blockHeaderAt g b img ≡ refused r → planAt g b img ≡ refused r
 unfolding planAt
 plan-stops g b img r q = rw q
 

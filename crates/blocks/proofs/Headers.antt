@@ -15,7 +15,7 @@ use Rattle.medium.specs.declared.fuse.Stored.the-variants.{Refused}
 use Rattle.medium.specs.Granularity.{pick, longestBlockHeader, typeAt, layoutBit}
 use Rattle.medium.specs.Geometry.{checkOf, address}
 use Rattle.medium.specs.Operation.{Answer, done, refused, andThen, run, ended}
-use Rattle.medium.specs.Medium.{part, readable, writable, readAt, write}
+use Rattle.medium.specs.Medium.{part, readable, writable, storable, readAt, write}
 use Rattle.medium.proofs.Checks.{admit-stop, passed}
 use Rattle.medium.proofs.Stores.{write-refused}
 use Rattle.blocks.specs.declared.header.BlockHeader.{BlockHeader}
@@ -32,10 +32,15 @@ bit-small Bit = omega arith
 bit-small Word1 = omega arith
 bit-small Word4 = omega arith
 
--- a store is refused as the check of geometry and room is
+-- a store is refused as its range is
+out-of-range : (g : Geometry) (b o : ℕ) (bs img : List ℕ) (r : ℕ) → r ≡ writable g (length img) b o (length bs) → (r ≡ 0 → ⊥) → r ≡ storable g b o bs img
+unfolding storable
+out-of-range g b o bs img r e n = rw (← e, ne-eqb r 0 n)
+
+-- and that as the check of geometry and room is
 pub write-unsound : (g : Geometry) (f : Fuse) (b o : ℕ) (bs img : List ℕ) (r : ℕ) → r ≡ checkOf g (length img) → (r ≡ 0 → ⊥) → ended (Refused r f) img ≡ run f (write g b o bs) img
 unfolding writable
-write-unsound g f b o bs img r e n = write-refused g img f b o bs r (admit-stop g (length img) _ r e n) n
+write-unsound g f b o bs img r e n = write-refused g img f b o bs r (out-of-range g b o bs img r (admit-stop g (length img) _ r e n) n) n
 
 -- what was read could be read
 pub readable-of : (g : Geometry) (b o n : ℕ) (img bs : List ℕ) → readAt g b o n img ≡ done bs → readable g (length img) b o n ≡ 0

@@ -4,4 +4,6 @@ pub mod Records
 pub mod Scans
 pub mod ReadBack
 pub mod Formatted
+pub mod Begun
 pub mod Seen
+pub mod Strict

@@ -106,7 +106,7 @@ or-either : (a b : Bool) → (a || b) ≡ true → (a ≡ true) ⊎ (b ≡ true)
 or-either true b p = inl refl
 or-either false b p = inr p
 
-padded-at : (k : Granularity) (bs : List ℕ) (n from i : ℕ) → paddedFrom k from n bs ≡ true → from ≤ i → i < from + n
+pub padded-at : (k : Granularity) (bs : List ℕ) (n from i : ℕ) → paddedFrom k from n bs ≡ true → from ≤ i → i < from + n
     → (named k i ≡ true) ⊎ (eqb (getD bs i 0) 0xFF ≡ true)
 padded-at k bs zero from i p lo hi = absurd (omega arith)
 padded-at k bs (suc n) from i p lo hi = go (leb-is (suc from) i) (λ q x y. padded-at k bs n (from + 1) i q x y)

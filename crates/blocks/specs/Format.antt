@@ -9,6 +9,7 @@ use Rattle.medium.specs.declared.geometry.Geometry.{Geometry}
 use Rattle.medium.specs.Granularity.{pick, blockHeader, typeAt}
 use Rattle.medium.specs.Geometry.{checkOf}
 use Rattle.medium.specs.Operation.{Answer, done, refused, andThen, Op, _>>=_, _>>_, ask, give, test}
+use Rattle.medium.specs.Strict.{allFF}
 use Rattle.medium.specs.Medium.{readAt, write, erase}
 use Rattle.blocks.specs.declared.header.BlockType.{BlockType}
 use Rattle.blocks.specs.declared.header.BlockType.the-variants.{Metadata, Data, Undefined}
@@ -22,10 +23,6 @@ use Rattle.blocks.specs.declared.format.Plan.the-variants as plan
 use Rattle.blocks.specs.BlockHeader.{typeByte, writeHeader, blockHeaderAt}
 
 -- ---- is there anything behind the header?
-
-abbrev pub allFF : List ℕ → Bool
-allFF [] = true
-allFF (b ∷ bs) = eqb b 0xFF && allFF bs
 
 -- the bytes of a block behind its header
 abbrev pub dataLength : Geometry → ℕ

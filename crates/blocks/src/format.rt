@@ -8,7 +8,7 @@ use medium::fuse::Stored;
 use medium::geometry::Geometry;
 ghost use mathlib.Core.Path.{_≡_};
 ghost use Rattle.medium.specs.Operation.{run, ended};
-ghost use Rattle.blocks.specs.Format.{allFF, dataLength, dataEmptyAt, emptinessAnswer, emptinessNumber, planEmpty, planUndefined, planKnown, planOf, planAt, planAnswer, planNumber, labelling, renewing, formatBlock, formatStorage, setBlockType};
+ghost use Rattle.blocks.specs.Format.{dataLength, dataEmptyAt, emptinessAnswer, emptinessNumber, planEmpty, planUndefined, planKnown, planOf, planAt, planAnswer, planNumber, labelling, renewing, formatBlock, formatStorage, setBlockType};
 
 // Whether anything is written in a range that was asked for.
 pub enum Emptiness {
@@ -50,19 +50,6 @@ impl Plan {
     }
 }
 
-fn is_erased(part: &[u8]) -> bool
-    ensures { λ r. ⌜ r ≡ allFF (now (part .entry)) ⌝ }
-{
-    let mut i = 0;
-    while i < part.len() {
-        if part[i] != 0xFF {
-            return false;
-        }
-        i += 1;
-    }
-    true
-}
-
 // How many bytes a block has behind its header.
 fn data_length(g: Geometry) -> usize
     ensures { λ r. ⌜ r ≡ dataLength g ⌝ }
@@ -84,7 +71,7 @@ pub fn is_block_data_empty(g: Geometry, image: &[u8], block: u32) -> Emptiness
     if bad != 0 {
         return Emptiness::Refused(bad);
     }
-    if is_erased(medium::lend(g, image, block, at, n)) {
+    if medium::is_erased(medium::lend(g, image, block, at, n)) {
         return Emptiness::Empty;
     }
     Emptiness::Written

@@ -67,6 +67,7 @@ movable =
     record {
       fine = refl;
       bytes = bytes-by store tt;
+      free-mark = λ z. absurd (omega arith);
       just-read = refl;
       finished = refl;
       aligned = refl;

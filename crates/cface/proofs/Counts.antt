@@ -23,7 +23,7 @@ use Rattle.objects.specs.declared.header.ObjectHeader.{ObjectHeader}
 use Rattle.objects.specs.Types.{rankOf}
 use Rattle.objects.specs.Header.{setState, setPayloadSize}
 use Rattle.writer.specs.declared.writer.ObjectWriter.{ObjectWriter}
-use Rattle.writer.specs.Writer.{freshOf, withHeader, emptied, possible, allocate, soundOf, mayWrite, wholeOf, pendingOf, heldBack, putBytes, writeSome, mayFinish, flush, close, finalize, deleting, delete}
+use Rattle.writer.specs.Writer.{freshOf, withHeader, emptied, possible, allocate, soundOf, mayWrite, wholeOf, pendingOf, heldBack, putPending, writeSome, mayFinish, flush, close, finalize, deleting, delete}
 use Rattle.writer.proofs.Laws.{width, Possible, sound-is, has-room, finish-is}
 use Rattle.writer.proofs.Steps.{whole-le}
 use Rattle.writer.proofs.Stored.{gave, none-refused, allocate-stores, some-stores, flush-stores}
@@ -57,7 +57,7 @@ module _ (g : Geometry) (w : ObjectWriter) (img : List ℕ) (v : ObjectWriter) w
   pub some-small : (src : List ℕ) → writeSome g w src img .answer ≡ done v → Small v
   unfolding writeSome
   some-small src e =
-      let t = tested (λ i. mayWrite w g (length i) (length src)) (putBytes g w n bs) img v e in
+      let t = tested (λ i. mayWrite w g (length i) (length src)) (putPending g w bs) img v e in
       let a = has-room w g (length img) (length src) 0 (sym (t .0)) refl in
       let q : v ≡ heldBack w n (drop n bs) = gave (writeSome g w src) img _ _ v (some-stores g w img src) e in
       let l : length bs ≡ length (take (w .held) (w .tail)) + length src = length-append (take (w .held) (w .tail)) src in

@@ -33,7 +33,7 @@ pub extern "C" fn stumpchoir_header_read(
     outs::hand_header(a, header)
 }
 
-// Stores the mark of a state that lies ahead; the present state stores nothing, backwards is 4, Free is 9.
+// Stores the mark of a state that lies ahead, or is 10; the present state stores nothing, backwards is 4, Free is 9.
 #[no_mangle]
 pub extern "C" fn stumpchoir_update_state(
     geometry: &[u32; 6],
@@ -57,7 +57,7 @@ pub extern "C" fn stumpchoir_update_state(
     outs::hand_back(a, units, header)
 }
 
-// Stores the low s bytes of a size that is not set yet; one that is set is 4.
+// Stores the low s bytes of a size that is not set yet, or is 10; one that is set is 4.
 #[no_mangle]
 pub extern "C" fn stumpchoir_set_payload_size(
     geometry: &[u32; 6],

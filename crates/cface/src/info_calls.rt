@@ -53,7 +53,7 @@ pub extern "C" fn stumpchoir_info_total_size(
     call::hand_count(a, total_size)
 }
 
-// Stores the mark of a Finalized object.
+// Stores the mark of a Finalized object, or is 10.
 #[no_mangle]
 pub extern "C" fn stumpchoir_info_finalize(
     geometry: &[u32; 6],
@@ -74,7 +74,7 @@ pub extern "C" fn stumpchoir_info_finalize(
     outs::hand_back(a, units, header)
 }
 
-// Stores the mark of a Deleted object.
+// Stores the mark of a Deleted object, or is 10.
 #[no_mangle]
 pub extern "C" fn stumpchoir_info_delete(
     geometry: &[u32; 6],

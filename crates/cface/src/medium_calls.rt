@@ -44,7 +44,7 @@ pub extern "C" fn stumpchoir_read(
     filled::read(g, image, block, offset, buffer)
 }
 
-// Programs the bytes of src at a place of a block.
+// Programs the bytes of src at a place of a block: one store, so 3, then 10, then 8.
 #[no_mangle]
 pub extern "C" fn stumpchoir_write(
     geometry: &[u32; 6],

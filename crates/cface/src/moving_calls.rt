@@ -18,7 +18,7 @@ ghost use Rattle.crossing.specs.Crossing.{crossedWith, crossingWith, plain, fus
 ghost use Rattle.crossing.specs.Values.{located, headerNumbers, headerOf};
 
 // An object of a type (8F, 8E or 8D, else 4), written whole: *total_size is its header and payload together. The type is stored first,
-// and 5, where the payload does not fit, leaves it there.
+// and 5, where the payload does not fit, leaves it there; 10 of a later store leaves those before it.
 #[no_mangle]
 pub extern "C" fn stumpchoir_write_to(
     geometry: &[u32; 6],
@@ -47,7 +47,8 @@ pub extern "C" fn stumpchoir_write_to(
     writers::hand_total(a, units, total_size)
 }
 
-// The Finalized object that a header names, anew at another place: its header there. The type is the one that the header says.
+// The Finalized object that a header names, anew at another place: its header there. The type is the one that the header says. 10 leaves
+// what was stored of it.
 #[no_mangle]
 pub extern "C" fn stumpchoir_copy_object(
     geometry: &[u32; 6],
@@ -75,7 +76,7 @@ pub extern "C" fn stumpchoir_copy_object(
     outs::hand_back(a, units, copy)
 }
 
-// The same, and then the object is deleted where it was.
+// The same, and then the object is deleted where it was; 10 of its delete mark leaves both, the copy finished.
 #[no_mangle]
 pub extern "C" fn stumpchoir_move_object(
     geometry: &[u32; 6],

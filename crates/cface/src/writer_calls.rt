@@ -15,7 +15,8 @@ ghost use Rattle.cface.specs.Writers.{writerNumbers, writerOf, spentAfte
 ghost use Rattle.crossing.specs.Crossing.{crossedWith, crossingWith, fuseOf, given, geometryIn, told, telling, plain, asked};
 ghost use Rattle.crossing.specs.Values.{located};
 
-// Stores the type (8F, 8E or 8D, else 4) of a new object, over Free or over Allocated of the same type: its writer.
+// Stores the type (8F, 8E or 8D, else 4) of a new object, over Free or over Allocated of the same type: its writer. Under the strict mark
+// the second is 10, and the first where its unit is programmed.
 #[no_mangle]
 pub extern "C" fn stumpchoir_writer_allocate(
     geometry: &[u32; 6],
@@ -103,7 +104,8 @@ pub extern "C" fn stumpchoir_writer_total_size(
     call::hand_count(a, total_size)
 }
 
-// Takes payload bytes: whole words are stored, less than a word is held. 5 where they are more than the space.
+// Takes payload bytes: whole words are stored, less than a word is held. 5 where they are more than the space. The word that held bytes
+// fill is a store of its own: 10 of the words behind it leaves it there.
 #[no_mangle]
 pub extern "C" fn stumpchoir_writer_write(
     geometry: &[u32; 6],
@@ -127,7 +129,7 @@ pub extern "C" fn stumpchoir_writer_write(
     writers::hand_back(a, units, writer)
 }
 
-// Ends the object: what is held, the size, and the mark of a Finalized object.
+// Ends the object: what is held, the size, and the mark of a Finalized object; each store can be 10.
 #[no_mangle]
 pub extern "C" fn stumpchoir_writer_finalize(
     geometry: &[u32; 6],
@@ -150,7 +152,8 @@ pub extern "C" fn stumpchoir_writer_finalize(
     writers::hand_back(a, units, writer)
 }
 
-// Deletes the object: one that is not Finalized gets its size first; of one that is Free or Deleted nothing is stored.
+// Deletes the object: one that is not Finalized gets its size first; of one that is Free or Deleted nothing is stored. Each store can be
+// 10.
 #[no_mangle]
 pub extern "C" fn stumpchoir_writer_delete(
     geometry: &[u32; 6],

@@ -32,7 +32,7 @@ pub extern "C" fn stumpchoir_block_header_read(
     records::hand_header(a, header)
 }
 
-// Programs a header.
+// Programs a header, or is 10.
 #[no_mangle]
 pub extern "C" fn stumpchoir_block_header_write(
     geometry: &[u32; 6],
@@ -122,7 +122,8 @@ pub extern "C" fn stumpchoir_scan_block(
     records::hand_record(a, record)
 }
 
-// Programs the type byte; 4 for a kind below 2.
+// Programs the type byte; 4 for a kind below 2. Under the strict mark a block that has a type already is 10, but for Undefined, which
+// stores FF.
 #[no_mangle]
 pub extern "C" fn stumpchoir_set_block_type(
     geometry: &[u32; 6],

@@ -7,7 +7,7 @@ ghost use Rattle.medium.specs.Beside.{both};
 ghost use Rattle.medium.specs.Operation.{run};
 ghost use Rattle.crossing.specs.Crossing.{crossed, crossing, fuseOf, geometryIn};
 
-// The first pass: deletes objects that a power cut left unfinished.
+// The first pass: deletes objects that a power cut left unfinished, or is 10 where their size or mark cannot be stored.
 #[no_mangle]
 pub extern "C" fn stumpchoir_delete_invalid_objects(
     geometry: &[u32; 6],
@@ -58,7 +58,7 @@ pub extern "C" fn stumpchoir_erase_full_finished_blocks(
     call::hand_back(a, units)
 }
 
-// A collection: the three passes in order.
+// A collection: the three passes in order. Only the first can be 10.
 #[no_mangle]
 pub extern "C" fn stumpchoir_run(
     geometry: &[u32; 6],

@@ -13,7 +13,7 @@ ghost use Rattle.crossing.specs.Crossing.{crossed, crossing, fuseOf, geometryIn
 // Of Finalized metadata objects of equal type and payload bytes the first stays, in block and offset order, and the others are deleted;
 // then each Finalized object of a Data block is that no Finalized metadata object refers to. *twins and *unreferred are how many were
 // deleted of each. 2 where a Metadata or Data block cannot be listed, then 14 where metadata is not a hash, a name location and whole
-// locations within its block, or one of these has no Finalized object of a Data block; both before any store.
+// locations within its block, or one of these has no Finalized object of a Data block, and under the strict mark; both before any store.
 #[no_mangle]
 pub extern "C" fn stumpchoir_sweep(
     geometry: &[u32; 6],

@@ -25,7 +25,6 @@ use Rattle.blocks.specs.declared.record.BlockInfo.{BlockInfo}
 use Rattle.blocks.specs.Format.{Planned, planAt, formatBlock}
 use Rattle.blocks.specs.Record.{erasedRecord}
 use Rattle.blocks.specs.Scan.{unlessBroken}
-use Rattle.blocks.proofs.Formats.{format-refused, format-done}
 use Rattle.blocks.proofs.Scans.{list-by}
 use Rattle.collector.specs.Table.{putRecord, storing}
 use Rattle.collector.specs.Passes.{wornBy, wornOut, formatting, renewing, erasingBy, erasing, acting, lastIn, unfinishedIn, deletedIn, eraseInvalidFinishedBlock, eraseFullFinishedBlock}
@@ -78,15 +77,15 @@ module _ (g : Geometry) (img : List ℕ) (c : checkOf g (length img) ≡ 0) (i :
 -- ---- the last erase count
 
 module _ (f : Fuse) (g : Geometry) (b : ℕ) (img : List ℕ) where
-  worn-by : (a : Answer (Unit {0})) → formatBlock g b img .answer ≡ a → run f (wornOut g b) img ≡ record { answer = wornBy a; fuse = f; state = img }
+  worn-by : (a : Answer Planned) → planAt g b img ≡ a → run f (wornOut g b) img ≡ record { answer = wornBy a; fuse = f; state = img }
   unfolding wornOut
-  worn-by a e = run-ask f (λ i. wornBy (formatBlock g b i .answer)) img ∙ rw e
+  worn-by a e = run-ask f (λ i. wornBy (planAt g b i)) img ∙ rw e
 
   pub worn-refused : (k : ℕ) → refused k ≡ planAt g b img → run f (wornOut g b) img ≡ record { answer = refused k; fuse = f; state = img }
-  worn-refused k e = worn-by (refused k) (format-refused g b img k (sym e))
+  worn-refused k e = worn-by (refused k) (sym e)
 
   pub worn-planned : (p : Planned) → done p ≡ planAt g b img → run f (wornOut g b) img ≡ record { answer = refused 9; fuse = f; state = img }
-  worn-planned p e = worn-by (done tt) (format-done g b img p (sym e))
+  worn-planned p e = worn-by (done p) (sym e)
 
 -- ---- a format and its record
 

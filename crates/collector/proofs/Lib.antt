@@ -11,3 +11,4 @@ pub mod Deleted
 pub mod Unreadable
 pub mod Whole
 pub mod Collections
+pub mod Strict

@@ -184,8 +184,8 @@ module _ (P : Event → Type 0) (g : Geometry) (b : ℕ) (own : Own P g b) where
     unfolding renewing wornOut
     renewing-each n s = go (eqb n 4294967295)
       where
-        go : (t : Bool) → All P (pick {A = Pass (Unit {0})} t (onImage (ask (λ img. wornBy (formatBlock g b img .answer)))) (formatting g b n) s .events)
-        go true = image-each P (ask (λ img. wornBy (formatBlock g b img .answer))) s (ask-each flash (λ u. P (unit u)) _ (s .image))
+        go : (t : Bool) → All P (pick {A = Pass (Unit {0})} t (onImage (ask (λ img. wornBy (planAt g b img)))) (formatting g b n) s .events)
+        go true = image-each P (ask (λ img. wornBy (planAt g b img))) s (ask-each flash (λ u. P (unit u)) _ (s .image))
         go false = formatting-each n s
 
     erasing-each : (r : BlockInfo) (d : Bool) (s : Both) → All P (erasing g b r d s .events)

@@ -24,7 +24,7 @@ use Rattle.objects.specs.Listing.{startOf, Met, object, freePlace, blockEnd, ne
 use Rattle.blocks.specs.declared.header.BlockHeaderKind.{BlockHeaderKind}
 use Rattle.blocks.specs.declared.header.BlockHeaderKind.the-variants.{Empty, Unknown, Known}
 use Rattle.blocks.specs.declared.record.BlockInfo.{BlockInfo}
-use Rattle.blocks.specs.Format.{formatBlock}
+use Rattle.blocks.specs.Format.{Planned, planAt, formatBlock}
 use Rattle.blocks.specs.Record.{erasedRecord}
 use Rattle.blocks.specs.Scan.{unlessBroken, isAllocated}
 use Rattle.collector.specs.declared.erasing.Finding.{Finding}
@@ -95,13 +95,13 @@ deleteInvalidObjectsInBlock g b r = deleteBy g b r (r .header .kind)
 
 -- ---- a format, and the record after it
 
--- "gives, at any fuse, what `format_block` with power would refuse, otherwise 9"
-abbrev pub wornBy : Answer (Unit {0}) → Answer (Unit {0})
+-- "gives, at any fuse, what `format_block` with power would refuse, otherwise 9": it refuses what its plan refuses
+abbrev pub wornBy : Answer Planned → Answer (Unit {0})
 wornBy (done _) = refused 9
 wornBy (refused n) = refused n
 
 unfoldable pub wornOut : Geometry → ℕ → Op (Unit {0})
-wornOut g b = ask (λ img. wornBy ((formatBlock g b img) .answer))
+wornOut g b = ask (λ img. wornBy (planAt g b img))
 
 unfoldable pub formatting : Geometry → ℕ → ℕ → Pass (Unit {0})
 formatting g b n = do

@@ -16,7 +16,7 @@ use Rattle.medium.specs.Operation.{Op, EndIn, Answer, done, refused, andThen, o
 
 -- a geometry with no bytes, which every call refuses with 6
 abbrev pub noGeometry : Geometry
-noGeometry = record { granularity = Bit; s = 0; c = 0; size = 0; count = 0 }
+noGeometry = record { granularity = Bit; s = 0; c = 0; strict = 0; size = 0; count = 0 }
 
 abbrev pub orNone : Answer Geometry → Geometry
 orNone (done g) = g

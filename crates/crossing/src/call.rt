@@ -22,6 +22,7 @@ pub fn geometry(n: &[u32; 6]) -> Geometry
             granularity: Granularity::Bit,
             s: 0,
             c: 0,
+            strict: 0,
             size: 0,
             count: 0,
         };

@@ -57,7 +57,7 @@ module _ (g : Granularity) (s : ℕ) (t : ObjectType) (pay : List ℕ) (q : ℕ)
   new-programs : All Programs (newUnits g s t pay q)
   new-programs = All-append Programs (before g s t pay q) (markUnits g q) before-programs mark-programs
 
-module _ (g : Geometry) (at : ObjectLocation) (t : ObjectType) (src img : List ℕ) (v : Room g at src img) (a : at .offset % widthOf (g .granularity) ≡ 0) (k : ℕ) (c : k ≤ marksAfter g src) where
+module _ (g : Geometry) (at : ObjectLocation) (t : ObjectType) (src img : List ℕ) (v : Room g at src img) (a : at .offset % widthOf (g .granularity) ≡ 0) (off : g .strict ≡ 1 → ⊥) (k : ℕ) (c : k ≤ marksAfter g src) where
   abbrev us : List FlashUnit
   us = newUnits (g .granularity) (g .s) t src (addressOf g at)
 
@@ -80,7 +80,7 @@ module _ (g : Geometry) (at : ObjectLocation) (t : ObjectType) (src img : List �
 
       on : (there : CompositeObjectState) → stateSeen (g .granularity) (addressOf g at) m ≡ done there → allocatableOf t there ≡ done tt → writeTo g at t src m ≡ ran us total
       on there e can =
-          let r = written-ran g at t src (length img) (record { fine = v .fine; block = v .block; aligned = a; in-block = v .in-block }) m (long g at src img v t k) there e can in
+          let r = written-ran g at t src (length img) (record { fine = v .fine; block = v .block; aligned = a; in-block = v .in-block }) off m (long g at src img v t k) there e can in
           r ∙ ap (ran us) (written g at t src m _ (ap (λ (x : Run flash ℕ). x .answer) r) .total)
 
       go : (stateSeen (g .granularity) (addressOf g at) (apply (take k (before (g .granularity) (g .s) t src (addressOf g at))) img) ≡ done Free)
@@ -101,4 +101,4 @@ module _ (g : Geometry) (at : ObjectLocation) (t : ObjectType) (src img : List �
 
 pub write-again : WriteAgain
 unfolding WriteAgain
-write-again g at t src img v a k c = written-again g at t src img v a k c
+write-again g at t src img v a off k c = written-again g at t src img v a off k c

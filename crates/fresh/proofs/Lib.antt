@@ -3,6 +3,7 @@ pub mod Written
 pub mod Parts
 pub mod Fresh
 pub mod Ran
+pub mod Marked
 pub mod Writes
 pub mod Scans
 pub mod Grows

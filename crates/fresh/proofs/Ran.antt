@@ -1,21 +1,22 @@
 -- What the writer's steps store with power at an aligned place with room in one block: the type, the whole words of what it is given, and at the
--- end what is held, the size and the mark.
+-- end what is held, the size and the mark. Without the strict mark; Marked.antt has it for an erased place under the mark too.
 use mathlib.Core.Path.{_≡_, refl, sym, ap, ap₂, _∙_, subst}
 use mathlib.Core.Bool.{false, _&&_}
 use mathlib.Core.List.{List, [], _∷_, _++_, append-assoc, append-nil}
 use Prim.Native.Nat.{ℕ, _+_, _-_, _*_, _/_, _%_, _≤_, _<_}
-use native.Mathlib.Nat.{zero-mod}
+use native.Mathlib.Nat.{zero-mod, zero-add, add-mul, add-mul-mod-self-right}
 use native.Mathlib.Omega.{arith}
 use lib.ListN.{length, take, drop, length-append, length-take, length-drop, take-append-drop}
+use lib.Seq.{length-take-le, take-add}
 use lib.Dec.{leb, ltb, eqb}
 use borrow.Author.Tests.{le-leb, lt-ltb, eq-eqb, ne-eqb}
 use Rattle.medium.specs.declared.granularity.Granularity.{Granularity}
 use Rattle.medium.specs.declared.geometry.Geometry.{Geometry}
-use Rattle.medium.specs.Granularity.{pick, widthOf, alignOf, finishAt, finishMark, sizeAt, header}
+use Rattle.medium.specs.Granularity.{pick, widthOf, unitsIn, alignOf, finishAt, finishMark, sizeAt, header}
 use Rattle.medium.specs.Geometry.{checkOf, address}
 use Rattle.medium.specs.Units.{FlashUnit, unitsOf}
 use Rattle.medium.specs.Operation.{apply, done, _>>=_, _>>_, ask, give}
-use Rattle.medium.specs.Medium.{write}
+use Rattle.medium.specs.Medium.{part, write}
 use Rattle.objects.specs.declared.types.ObjectType.{ObjectType}
 use Rattle.objects.specs.declared.state.ObjectDataState.the-variants.{Untrusted, Valid}
 use Rattle.objects.specs.declared.state.CompositeObjectState.{CompositeObjectState}
@@ -27,17 +28,18 @@ use Rattle.objects.specs.Types.{typeByte}
 use Rattle.objects.specs.Header.{stateAt, allocatableOf, marking, setState, sizableOf, withSize, setPayloadSize}
 use Rattle.objects.specs.Info.{totalOf}
 use Rattle.writer.specs.declared.writer.ObjectWriter.{ObjectWriter}
-use Rattle.writer.specs.Writer.{withHeader, soundOf, allocate, mayWrite, pendingOf, wholeOf, tailOf, putBytes, writeSome, mayFinish, flush, close, finalize, writeTo}
+use Rattle.writer.specs.Writer.{withHeader, soundOf, allocate, mayWrite, pendingOf, tailOf, fillingOf, putBytes, putPending, writeSome, mayFinish, flush, close, finalize, writeTo}
 use Rattle.fresh.specs.Units.{span, typeUnits, payUnits, sizeUnits, markUnits, newUnits}
-use Rattle.medium.proofs.Bytes.{length-apply}
+use Rattle.medium.proofs.Bytes.{length-apply, length-part}
 use Rattle.medium.proofs.Traced.{ran, bind-ran, ask-ran, store-ran, tested, asked}
 use Rattle.medium.proofs.Writes.{write-ran}
-use Rattle.medium.proofs.Split.{units-split, none-stored}
+use Rattle.medium.proofs.Split.{units-split, units-even, units-more, none-stored}
 use Rattle.medium.proofs.Places.{width-is, Laid, laid, even-add}
 use Rattle.medium.proofs.Checks.{Fine, admit-pass, fine-of-check}
 use Rattle.objects.proofs.Numbers.{length-bytes}
 use Rattle.shown.proofs.Reading.{stateSeen, state-read, headerOf}
 use Rattle.writer.proofs.Units.{tail-back}
+use Rattle.writer.proofs.Steps.{filled}
 use Rattle.fresh.proofs.Places.{tail-room, Floored, floored}
 
 -- a place of a block for n bytes of payload, in an image of some length
@@ -47,7 +49,7 @@ pub record Place (g : Geometry) (at : ObjectLocation) (n room : ℕ) : Type 0 wh
   pub aligned : at .offset % widthOf (g .granularity) ≡ 0
   pub in-block : at .offset + span (g .granularity) (g .s) n ≤ g .size
 
-module _ (g : Geometry) (at : ObjectLocation) (t : ObjectType) (pay : List ℕ) (room : ℕ) (v : Place g at (length pay) room) where
+module _ (g : Geometry) (at : ObjectLocation) (t : ObjectType) (pay : List ℕ) (room : ℕ) (v : Place g at (length pay) room) (off : g .strict ≡ 1 → ⊥) where
   abbrev gr : Granularity
   gr = g .granularity
 
@@ -82,7 +84,7 @@ module _ (g : Geometry) (at : ObjectLocation) (t : ObjectType) (pay : List ℕ) 
   put : (m : List ℕ) (x : ℕ) (bs : List ℕ) → length m ≡ room → x % w ≡ 0 → x + alignOf w (length bs) ≤ sp → write g (at .block) (at .offset + x) bs m ≡ ran (unitsOf w (q + x) bs) tt
   put m x bs e a r =
       let ad : address g (at .block) (at .offset + x) ≡ q + x = omega arith in
-      write-ran g (at .block) (at .offset + x) bs m (still m e) (v .block) (even-add (g .granularity) (at .offset) x (v .aligned) a) (omega (arith, v .in-block))
+      write-ran g (at .block) (at .offset + x) bs m (still m e) (v .block) (even-add (g .granularity) (at .offset) x (v .aligned) a) (omega (arith, v .in-block)) (λ on. absurd (off on))
       ∙ ap (λ (i : ℕ). ran (unitsOf w i bs) tt) ad
 
   -- ---- its writer
@@ -116,6 +118,33 @@ module _ (g : Geometry) (at : ObjectLocation) (t : ObjectType) (pay : List ℕ) 
   abbrev pub whole : List ℕ → List ℕ → ℕ
   whole tl c = length (tl ++ c) - length (tl ++ c) % w
 
+  -- the first k of n bytes and then the others, where both are whole words: the units of one store
+  pair-ran : {A : Type 0} (x k j n : ℕ) (bs m : List ℕ) (z : A) → length m ≡ room → x % w ≡ 0 → k ≡ j * w → k ≤ n → n ≤ length bs → alignOf w n ≡ n → x + n ≤ sp
+      → (write g (at .block) (at .offset + x) (take k bs) >>= λ _. write g (at .block) (at .offset + x + k) (part k (n - k) bs) >>= λ _. give z) m ≡ ran (unitsOf w (q + x) (take n bs)) z
+  pair-ran x k j n bs m z e a hk le ln en r =
+      let lk : length (take k bs) ≡ k = length-take-le k bs (omega arith) in
+      let lr : length (part k (n - k) bs) ≡ n - k = length-part k (n - k) bs (omega arith) in
+      let ak : alignOf w k ≡ k = ap (alignOf w) hk ∙ ap (λ (i : ℕ). i * w) (units-even w (l .pos) j) ∙ sym hk in
+      let z1 : k + (n - k) ≡ n = omega arith in
+      let more : k + alignOf w (n - k) ≡ n =
+      ap (λ (i : ℕ). i + alignOf w (n - k)) hk ∙ sym (add-mul j (unitsIn w (n - k)) w) ∙ ap (λ (i : ℕ). i * w) (sym (units-more w (l .pos) j (n - k)))
+      ∙ ap (λ (i : ℕ). alignOf w (i + (n - k))) (sym hk) ∙ ap (alignOf w) z1 ∙ en in
+      let ev : k % w ≡ 0 = ap (λ (i : ℕ). i % w) (hk ∙ sym (zero-add (j * w))) ∙ add-mul-mod-self-right 0 j w ∙ zero-mod w in
+      let us : List FlashUnit = unitsOf w (q + x) (take k bs) in
+      let ad : at .offset + x + k ≡ at .offset + (x + k) = omega arith in
+      let aq : q + (x + k) ≡ q + x + j * w = omega arith in
+      let st : write g (at .block) (at .offset + x + k) (part k (n - k) bs) (apply (unitsOf w (q + x) (take k bs)) m) ≡ ran (unitsOf w (q + (x + k)) (part k (n - k) bs)) tt =
+      ap (λ (i : ℕ). write g (at .block) i (part k (n - k) bs) (apply (unitsOf w (q + x) (take k bs)) m)) ad
+      ∙ put (apply (unitsOf w (q + x) (take k bs)) m) (x + k) (part k (n - k) bs) (length-apply (unitsOf w (q + x) (take k bs)) m ∙ e) (even-add (g .granularity) x k a ev) (rw lr (omega arith)) in
+      bind-ran (write g (at .block) (at .offset + x) (take k bs)) (λ _. write g (at .block) (at .offset + x + k) (part k (n - k) bs) >>= λ _. give z) m
+      (unitsOf w (q + x) (take k bs)) (unitsOf w (q + (x + k)) (part k (n - k) bs)) tt z
+      (put m x (take k bs) e a (rw (lk, ak) (omega arith)))
+      (store-ran (write g (at .block) (at .offset + x + k) (part k (n - k) bs)) (apply (unitsOf w (q + x) (take k bs)) m) (unitsOf w (q + (x + k)) (part k (n - k) bs)) z st)
+      ∙ ap (λ (us : List FlashUnit). ran us z)
+      (ap (λ (i : ℕ). unitsOf w (q + x) (take k bs) ++ unitsOf w i (part k (n - k) bs)) aq
+      ∙ sym (units-split w (l .pos) j (q + x) (take k bs) (part k (n - k) bs) (lk ∙ hk))
+      ∙ ap (unitsOf w (q + x)) (sym (take-add k (n - k) bs) ∙ ap (λ (i : ℕ). take i bs) z1))
+
   pub some-ran : (cur : ℕ) (tl c m : List ℕ) → length m ≡ room → length tl < w → cur + length tl + length c ≤ length pay → cur % w ≡ 0
       → writeSome g (writer cur tl) c m ≡ ran (unitsOf w (q + H + cur) (take (whole tl c) (tl ++ c))) (writer (cur + whole tl c) (drop (whole tl c) (tl ++ c)))
   unfolding writeSome putBytes
@@ -123,19 +152,18 @@ module _ (g : Geometry) (at : ObjectLocation) (t : ObjectType) (pay : List ℕ) 
       let wh : ℕ = whole tl c in
       let f : Floored (g .granularity) (length (tl ++ c)) = floored (g .granularity) (length (tl ++ c)) in
       let la : length (tl ++ c) ≡ length tl + length c = length-append tl c in
-      let lw : length (take wh (tl ++ c)) ≡ wh = simp length-take (omega arith) in
       let n4 : length tl ≤ 4 = omega (arith, narrow) in
       let ad : at .offset + H + cur ≡ at .offset + (H + cur) = omega arith in
       let aq : q + (H + cur) ≡ q + H + cur = omega arith in
       let even-at : (H + cur) % w ≡ 0 = even-add (g .granularity) H cur (l .header-even) z in
-      let fits : H + cur + alignOf w (length (take wh (tl ++ c))) ≤ sp = rw lw (omega (arith, l, f .even-units)) in
-      let st : write g (at .block) (at .offset + H + cur) (take wh (tl ++ c)) m ≡ ran (unitsOf w (q + H + cur) (take wh (tl ++ c))) tt =
-      ap (λ (i : ℕ). write g (at .block) i (take wh (tl ++ c)) m) ad ∙ put m (H + cur) (take wh (tl ++ c)) e even-at fits
-      ∙ ap (λ (i : ℕ). ran (unitsOf w i (take wh (tl ++ c))) tt) aq in
-      tested (λ i. mayWrite (writer cur tl) g (length i) (length c)) (putBytes g (writer cur tl) (wholeOf w (length (pendingOf (writer cur tl) c))) (pendingOf (writer cur tl) c)) m
-      (unitsOf w (q + H + cur) (take wh (tl ++ c))) (writer (cur + wh) (drop wh (tl ++ c))) (some-test cur tl c m e lt r)
-      (ap (λ (x : List ℕ). putBytes g (writer cur tl) (wholeOf w (length (x ++ c))) (x ++ c) m) (tail-back tl n4)
-      ∙ store-ran (write g (at .block) (at .offset + H + cur) (take wh (tl ++ c))) m (unitsOf w (q + H + cur) (take wh (tl ++ c))) (writer (cur + wh) (drop wh (tl ++ c))) st)
+      let k : ℕ = fillingOf (writer cur tl) w (whole tl c) in
+      let fl = filled (writer cur tl) w (whole tl c) (whole tl c / w) (sym (f .even-count)) in
+      tested (λ i. mayWrite (writer cur tl) g (length i) (length c)) (putPending g (writer cur tl) (pendingOf (writer cur tl) c)) m
+      (unitsOf w (q + H + cur) (take (whole tl c) (tl ++ c))) (writer (cur + whole tl c) (drop (whole tl c) (tl ++ c))) (some-test cur tl c m e lt r)
+      (ap (λ (x : List ℕ). putPending g (writer cur tl) (x ++ c) m) (tail-back tl n4)
+      ∙ ap (λ (o : ℕ). (write g (at .block) o (take k (tl ++ c)) >>= λ _. write g (at .block) (o + k) (part k (wh - k) (tl ++ c)) >>= λ _. give (writer (cur + wh) (drop wh (tl ++ c)))) m) ad
+      ∙ pair-ran (H + cur) k (fl .0) wh (tl ++ c) m (writer (cur + wh) (drop wh (tl ++ c))) e even-at (fl .1) (fl .2) (omega arith) (f .even-units) (omega (arith, l))
+      ∙ ap (λ (i : ℕ). ran (unitsOf w i (take wh (tl ++ c))) (writer (cur + wh) (drop wh (tl ++ c)))) aq)
 
   -- ---- the held tail, the size, the mark
 

@@ -1,5 +1,6 @@
 -- The units of `write_to` are those of a new object.
 use mathlib.Core.Path.{_≡_, refl, ap, ap₂, _∙_}
+use mathlib.Core.Bool.{true}
 use mathlib.Core.List.{List, append-assoc}
 use Prim.Native.Nat.{ℕ, _+_, _-_, _%_}
 use native.Mathlib.Omega.{arith}
@@ -8,7 +9,8 @@ use Rattle.medium.specs.declared.geometry.Geometry.{Geometry}
 use Rattle.medium.specs.declared.fuse.Fuse.{Fuse}
 use Rattle.medium.specs.declared.fuse.Fuse.the-variants.{Units}
 use Rattle.medium.specs.Granularity.{widthOf, header, sizeAt, finishAt}
-use Rattle.medium.specs.Geometry.{address}
+use Rattle.medium.specs.Geometry.{geometryOk, address}
+use Rattle.medium.specs.Marked.{withStrict}
 use Rattle.medium.specs.Units.{FlashUnit}
 use Rattle.medium.specs.Operation.{flash, apply, cost, Answer, done, refused, Run, End, cut, run}
 use Rattle.objects.specs.declared.types.ObjectType.{ObjectType}
@@ -25,7 +27,9 @@ use Rattle.medium.proofs.Runs.{cost-flash, leb-yes, leb-no}
 use Rattle.writer.proofs.Units.{object-stores, written}
 use Rattle.fresh.proofs.Written.{still-free, length-new}
 use Rattle.fresh.proofs.Fresh.{new-of}
+use Rattle.writer.proofs.Strict.{write-to-under}
 use Rattle.fresh.proofs.Ran.{written-ran}
+use Rattle.fresh.proofs.Marked.{new-once, either-ran, sound-of, unmarked-fine}
 
 pub units-new : (g : Geometry) (at : ObjectLocation) (t : ObjectType) (src : List ℕ) → objectUnits g at t src ≡ newUnits (g .granularity) (g .s) t src (addressOf g at)
 units-new g at t src =
@@ -52,8 +56,14 @@ writes g at t src img n e =
 pub write-done : WriteDone
 unfolding WriteDone allocatableOf
 write-done g at t src img v a =
-    let r = written-ran g at t src (length img) (record { fine = v .fine; block = v .block; aligned = a; in-block = v .in-block }) img refl Free
-    (still-free (g .granularity) (g .s) t (addressOf g at) src img (new-of g at src img v)) refl in
+    let ok : geometryOk g ≡ true = sound-of g (length img) (v .fine) in
+    let new = new-of g at src img v in
+    let free = still-free (g .granularity) (g .s) t (addressOf g at) src img (new-of g at src img v) in
+    let r = either-ran g (λ k. writeTo k at t src) (λ m b. write-to-under g m b at t src) ok img (newUnits (g .granularity) (g .s) t src (addressOf g at)) _
+    (λ off. written-ran g at t src (length img) (record { fine = v .fine; block = v .block; aligned = a; in-block = v .in-block }) off img refl Free free refl)
+    (λ b. written-ran (withStrict g 0) at t src (length img)
+    (record { fine = unmarked-fine g (length img) (v .fine); block = v .block; aligned = a; in-block = v .in-block }) (λ z. omega arith) img refl Free free refl)
+    (λ _. new-once (g .granularity) (g .s) t (addressOf g at) src img new) in
     let e = ap (λ (x : Run flash ℕ). x .answer) r in
     e ∙ ap done (written g at t src img _ e .total)
 
@@ -64,7 +74,7 @@ module _ (g : Geometry) (at : ObjectLocation) (t : ObjectType) (src img : List �
   abbrev us : List FlashUnit
   us = newUnits (g .granularity) (g .s) t src (addressOf g at)
 
-  stores : writeTo g at t src img ≡ ran us total
+  pub stores : writeTo g at t src img ≡ ran us total
   unfolding WriteDone
   stores =
       let e = write-done g at t src img v a in

@@ -37,9 +37,9 @@ unfoldable pub WriteFused : Type 0
 WriteFused =
     (g : Geometry) (at : ObjectLocation) (t : ObjectType) (src img : List ℕ) → Room g at src img → at .offset % widthOf (g .granularity) ≡ 0 → Fused g at t src img
 
--- after a cut before its finish mark the same call again, with power, ends as the uncut one
+-- without the strict mark: after a cut before its finish mark the same call again, with power, ends as the uncut one
 unfoldable pub WriteAgain : Type 0
 WriteAgain =
-    (g : Geometry) (at : ObjectLocation) (t : ObjectType) (src img : List ℕ) → Room g at src img → at .offset % widthOf (g .granularity) ≡ 0 → (k : ℕ) → k ≤ marksAfter g src
+    (g : Geometry) (at : ObjectLocation) (t : ObjectType) (src img : List ℕ) → Room g at src img → at .offset % widthOf (g .granularity) ≡ 0 → (g .strict ≡ 1 → ⊥) → (k : ℕ) → k ≤ marksAfter g src
     → run Absent (writeTo g at t src) (after g at t src img k)
     ≡ record { answer = done (header (g .granularity) (g .s) + length src); fuse = Absent; state = after g at t src img (marksAfter g src + 1) }

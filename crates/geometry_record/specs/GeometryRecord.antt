@@ -1,4 +1,5 @@
--- "one 16-byte record: granularity 0, 1 or 4; s; c; 0; block size u32; block count u32; four zero bytes; low byte first"
+-- "one 16-byte record: granularity 0, 1 or 4; s; c; 0; block size u32; block count u32; four zero bytes; low byte first".
+-- "The mark takes the first zero byte of the geometry record, 0 or 1."
 use Prim.Native.Nat.{ℕ, _+_, _*_}
 use mathlib.Core.List.{List, [], _∷_}
 use mathlib.Core.Bool.{Bool, _&&_}
@@ -17,7 +18,7 @@ wordAt raw i = getD raw i 0 + 256 * (getD raw (i + 1) 0 + 256 * (getD raw (i + 2
 unfoldable pub wellFormed : List ℕ → Bool
 wellFormed raw = eqb (length raw) 16 && eqb (wordAt raw 12) 0
 
--- granularity, s, c, the number that has to be 0, block size, block count
+-- granularity, s, c, strict mark, block size, block count
 abbrev pub numbersOf : List ℕ → List ℕ
 numbersOf raw = getD raw 0 0 ∷ getD raw 1 0 ∷ getD raw 2 0 ∷ getD raw 3 0 ∷ wordAt raw 4 ∷ wordAt raw 8 ∷ []
 

@@ -1,7 +1,7 @@
 // The geometry record: sixteen bytes that say how an image is laid out.
 //
-// It holds six numbers, granularity, the two field widths, one that has to be 0, block size and block count, and then four bytes 0. What it
-// says may still break a rule of the geometry: the medium tests those.
+// It holds six numbers, granularity, the two field widths, the strict mark, block size and block count, and then four bytes 0. What it says
+// may still break a rule of the geometry: the medium tests those.
 use medium::geometry;
 use medium::geometry::GeometryRead;
 ghost use mathlib.Core.Path.{_≡_};
@@ -10,7 +10,7 @@ ghost use lib.ListN.{length};
 ghost use Rattle.medium.specs.Geometry.{geometryAnswer};
 ghost use Rattle.geometry_record.specs.GeometryRecord.{wordAt, wellFormed, numbersOf, recorded};
 
-// The geometry of a record, or 6: another length, a byte that has to be 0, or no granularity.
+// The geometry of a record, or 6: another length, one of the last four bytes not 0, or no granularity.
 pub fn geometry_of(raw: &[u8]) -> GeometryRead
     ensures { λ r. ⌜ geometryAnswer r ≡ recorded (now (raw .entry)) ⌝ }
 {

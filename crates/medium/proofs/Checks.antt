@@ -9,20 +9,22 @@ use lib.ListN.{length, getD}
 use lib.Dec.{ltb, leb, eqb}
 use borrow.Author.Tests.{ltb-true, leb-true, eqb-true, le-leb, lt-leb, eq-eqb}
 use Rattle.medium.specs.declared.geometry.Geometry.{Geometry}
-use Rattle.medium.specs.Granularity.{pick, widthOf, unitsIn, alignOf}
+use Rattle.medium.specs.Granularity.{pick, widthOf, unitsIn, alignOf, mostStrict}
 use Rattle.medium.specs.Geometry.{limitOf, geometryOk, admit, checkOf, fitOf, address, fieldsHold}
 use Rattle.medium.specs.Operation.{done, refused}
 use Rattle.medium.specs.Medium.{part, readable, erasable, writable, readAt}
 use Rattle.medium.proofs.Places.{width-is}
 
-ands : (a b c d e f h : Bool) → (a && b && c && d && e && f && h) ≡ true → (a ≡ true) × (b ≡ true) × (c ≡ true) × (d ≡ true) × (e ≡ true) × (f ≡ true) × (h ≡ true)
-ands true true true true true true h p = (refl, refl, refl, refl, refl, refl, p)
-ands true true true true true false h p = absurd (false≢true p)
-ands true true true true false f h p = absurd (false≢true p)
-ands true true true false e f h p = absurd (false≢true p)
-ands true true false d e f h p = absurd (false≢true p)
-ands true false c d e f h p = absurd (false≢true p)
-ands false b c d e f h p = absurd (false≢true p)
+ands : (a b c d e f h i : Bool) → (a && b && c && d && e && f && h && i) ≡ true
+    → (a ≡ true) × (b ≡ true) × (c ≡ true) × (d ≡ true) × (e ≡ true) × (f ≡ true) × (h ≡ true) × (i ≡ true)
+ands true true true true true true true i p = (refl, refl, refl, refl, refl, refl, refl, p)
+ands true true true true true true false i p = absurd (false≢true p)
+ands true true true true true false h i p = absurd (false≢true p)
+ands true true true true false f h i p = absurd (false≢true p)
+ands true true true false e f h i p = absurd (false≢true p)
+ands true true false d e f h i p = absurd (false≢true p)
+ands true false c d e f h i p = absurd (false≢true p)
+ands false b c d e f h i p = absurd (false≢true p)
 
 -- a test that gives 0 was passed, and so was the next
 pub picked : (b : Bool) (x k : ℕ) → pick b x (suc k) ≡ 0 → (b ≡ true) × (x ≡ 0)
@@ -42,6 +44,7 @@ pub record Sound (g : Geometry) : Type 0 where
   pub c-least : 1 ≤ g .c
   pub c-most : g .c ≤ 3
   pub c-holds : g .count ≤ limitOf (g .c)
+  pub mark : g .strict ≤ mostStrict (g .granularity)
 
 -- and of one whose image has the right length
 pub record Fine (g : Geometry) (room : ℕ) : Type 0 where
@@ -59,7 +62,7 @@ limit-some (suc (suc (suc (suc w)))) h = let z : 1 ≤ 0 = rw (lt-leb (suc (suc 
 pub sound-is : (g : Geometry) → geometryOk g ≡ true → Sound g
 unfolding geometryOk
 sound-is g e =
-    let t = ands (leb 64 (g .size)) (leb (g .size) 65536) (eqb (g .size % 4) 0) (leb (g .size) (limitOf (g .s))) (leb 1 (g .count)) (leb (g .count) (limitOf (g .c))) (leb (g .size * g .count) 16777216) e in
+    let t = ands (leb 64 (g .size)) (leb (g .size) 65536) (eqb (g .size % 4) 0) (leb (g .size) (limitOf (g .s))) (leb 1 (g .count)) (leb (g .count) (limitOf (g .c))) (leb (g .size * g .count) 16777216) (leb (g .strict) (mostStrict (g .granularity))) e in
     let l : 64 ≤ g .size = leb-true _ _ (t .0) in
     let m : g .size ≤ limitOf (g .s) = leb-true _ _ (t .3) in
     let n : 1 ≤ g .count = leb-true _ _ (t .4) in
@@ -78,6 +81,7 @@ sound-is g e =
       c-least = j .0;
       c-most = j .1;
       c-holds = o;
+      mark = leb-true _ _ (t .7);
     }
 
 -- neither 6 nor 7, and 0 from what comes next
@@ -108,9 +112,10 @@ unfolding fitOf admit
 fit-room g room r e z = rw (picked (geometryOk g) 0 5 (sym e ∙ z) .0)
 
 -- the geometry's rules, one by one
-pub geometry-yes : (g : Geometry) → 64 ≤ g .size → g .size ≤ 65536 → g .size % 4 ≡ 0 → g .size ≤ limitOf (g .s) → 1 ≤ g .count → g .count ≤ limitOf (g .c) → g .size * g .count ≤ 16777216 → geometryOk g ≡ true
+pub geometry-yes : (g : Geometry) → 64 ≤ g .size → g .size ≤ 65536 → g .size % 4 ≡ 0 → g .size ≤ limitOf (g .s) → 1 ≤ g .count → g .count ≤ limitOf (g .c) → g .size * g .count ≤ 16777216
+    → g .strict ≤ mostStrict (g .granularity) → geometryOk g ≡ true
 unfolding geometryOk
-geometry-yes g a b c d e f h = simp (le-leb _ _ a, le-leb _ _ b, eq-eqb _ _ c, le-leb _ _ d, le-leb _ _ e, le-leb _ _ f, le-leb _ _ h)
+geometry-yes g a b c d e f h i = simp (le-leb _ _ a, le-leb _ _ b, eq-eqb _ _ c, le-leb _ _ d, le-leb _ _ e, le-leb _ _ f, le-leb _ _ h, le-leb _ _ i)
 
 -- past a check that gives 0 comes what is next, and a check that refuses is the answer
 pub admit-pass : (g : Geometry) (room next r : ℕ) → r ≡ checkOf g room → r ≡ 0 → admit g room next ≡ next
@@ -144,17 +149,18 @@ passed g room next e = go (geometryOk g) (eqb (g .size * g .count) room) e
 
 -- ---- a geometry that comes in as numbers
 
--- numbers that their fields hold: the first three are bytes
-pub fields-are : (ns : List ℕ) → fieldsHold ns ≡ true → (getD ns 0 0 ≤ 255) × (getD ns 1 0 ≤ 255) × (getD ns 2 0 ≤ 255)
+-- numbers that their fields hold: the first four are bytes
+pub fields-are : (ns : List ℕ) → fieldsHold ns ≡ true → (getD ns 0 0 ≤ 255) × (getD ns 1 0 ≤ 255) × (getD ns 2 0 ≤ 255) × (getD ns 3 0 ≤ 255)
 unfolding fieldsHold
-fields-are ns e = go (leb (getD ns 0 0) 255) (leb (getD ns 1 0) 255) (leb (getD ns 2 0) 255) (eqb (getD ns 3 0) 0) refl refl refl e
+fields-are ns e = go (leb (getD ns 0 0) 255) (leb (getD ns 1 0) 255) (leb (getD ns 2 0) 255) (leb (getD ns 3 0) 255) refl refl refl refl e
   where
-    go : (a b c d : Bool) → leb (getD ns 0 0) 255 ≡ a → leb (getD ns 1 0) 255 ≡ b → leb (getD ns 2 0) 255 ≡ c → (a && b && c && d) ≡ true
-        → (getD ns 0 0 ≤ 255) × (getD ns 1 0 ≤ 255) × (getD ns 2 0 ≤ 255)
-    go true true true d x y z h = (leb-true _ _ x, leb-true _ _ y, leb-true _ _ z)
-    go true true false d x y z h = absurd (false≢true h)
-    go true false c d x y z h = absurd (false≢true h)
-    go false b c d x y z h = absurd (false≢true h)
+    go : (a b c d : Bool) → leb (getD ns 0 0) 255 ≡ a → leb (getD ns 1 0) 255 ≡ b → leb (getD ns 2 0) 255 ≡ c → leb (getD ns 3 0) 255 ≡ d → (a && b && c && d) ≡ true
+        → (getD ns 0 0 ≤ 255) × (getD ns 1 0 ≤ 255) × (getD ns 2 0 ≤ 255) × (getD ns 3 0 ≤ 255)
+    go true true true true x y z v h = (leb-true _ _ x, leb-true _ _ y, leb-true _ _ z, leb-true _ _ v)
+    go true true true false x y z v h = absurd (false≢true h)
+    go true true false d x y z v h = absurd (false≢true h)
+    go true false c d x y z v h = absurd (false≢true h)
+    go false b c d x y z v h = absurd (false≢true h)
 
 -- ---- where a range of a block lies
 

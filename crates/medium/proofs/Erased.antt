@@ -16,11 +16,12 @@ use Rattle.medium.specs.Granularity.{pick, widthOf}
 use Rattle.medium.specs.Geometry.{address, checkOf}
 use Rattle.medium.specs.Units.{FlashUnit, blank, under, unitsOf}
 use Rattle.medium.specs.Operation.{apply, done, putting, run}
-use Rattle.medium.specs.Medium.{part, readable, writable, readAt, write}
+use Rattle.medium.specs.Medium.{part, readable, writable, storable, readAt, write}
 use Rattle.medium.proofs.Bytes.{ff-and, fits-up, Misses, stored, length-apply, length-erased, part-is, getD-part}
 use Rattle.medium.proofs.Padding.{AreBytes}
 use Rattle.medium.proofs.Places.{width-is}
 use Rattle.medium.proofs.Checks.{write-at, admit-pass, check-of-write}
+use Rattle.medium.proofs.Strict.{storable-range}
 
 -- ---- an erased block
 
@@ -77,14 +78,15 @@ readable-written g room b o n e =
     ∙ rw (lt-ltb _ _ (l .below), le-leb _ _ h)
 
 -- with power, a write over FF reads as it was written
-pub written-reads : (g : Geometry) (b o : ℕ) (bs img : List ℕ) → writable g (length img) b o (length bs) ≡ 0 → AreBytes bs
+pub written-reads : (g : Geometry) (b o : ℕ) (bs img : List ℕ) → storable g b o bs img ≡ 0 → AreBytes bs
     → part (address g b o) (length bs) img ≡ replicate (length bs) 255
     → readAt g b o (length bs) (run Absent (write g b o bs) img .state) ≡ done bs
 unfolding readAt write run putting
-written-reads g b o bs img e h ff =
+written-reads g b o bs img t h ff =
+    let e = storable-range g b o bs img t in
     let w = widthOf (g .granularity) in
     let hw = width-is (g .granularity) .0 in
     let l = write-at g (length img) b o (length bs) (writable g (length img) b o (length bs)) refl e in
     let k : address g b o + length bs ≤ length img = omega (arith, l .ends, fits-up w hw (length bs)) in
-    rw (e, length-apply (unitsOf w (address g b o) bs) img, readable-written g (length img) b o (length bs) e)
+    rw (t, length-apply (unitsOf w (address g b o) bs) img, readable-written g (length img) b o (length bs) e)
     (ap done (stands w hw (address g b o) bs img h k ff))

@@ -17,11 +17,12 @@ use Rattle.medium.specs.Granularity.{pick, widthOf, alignOf}
 use Rattle.medium.specs.Geometry.{address}
 use Rattle.medium.specs.Units.{FlashUnit, erased, unitsOf}
 use Rattle.medium.specs.Operation.{flash, apply, cost, Op, ask, putting, cutBy, run}
-use Rattle.medium.specs.Medium.{part, writable, erasable, write, erase}
+use Rattle.medium.specs.Medium.{part, writable, storable, erasable, write, erase}
 use Rattle.medium.proofs.Runs.{prefix-flash, leb-is}
 use Rattle.medium.proofs.Bytes.{Off, Misses, All-take, frame, store-miss, length-apply, part-is, getD-part, length-part}
 use Rattle.medium.proofs.Places.{width-is}
 use Rattle.medium.proofs.Checks.{write-at}
+use Rattle.medium.proofs.Strict.{storable-range}
 
 -- ---- one byte
 
@@ -85,11 +86,11 @@ either j false put none img h k = k
 -- the units of a write miss it
 pub write-misses : (g : Geometry) (b o : ℕ) (bs img : List ℕ) (j : ℕ) → Off (b * g .size) (g .size) j → All (Misses j) (write g b o bs img .events)
 unfolding write putting ask
-write-misses g b o bs img j h = either j (eqb (writable g (length img) b o (length bs)) 0) _ _ img (λ e. units e h) tt
+write-misses g b o bs img j h = either j (eqb (storable g b o bs img) 0) _ _ img (λ e. units e h) tt
   where
-    units : eqb (writable g (length img) b o (length bs)) 0 ≡ true → Off (b * g .size) (g .size) j → All (Misses j) (unitsOf (widthOf (g .granularity)) (address g b o) bs)
+    units : eqb (storable g b o bs img) 0 ≡ true → Off (b * g .size) (g .size) j → All (Misses j) (unitsOf (widthOf (g .granularity)) (address g b o) bs)
     units e off =
-        let l = write-at g (length img) b o (length bs) (writable g (length img) b o (length bs)) refl (eqb-true _ _ e) in
+        let l = write-at g (length img) b o (length bs) (writable g (length img) b o (length bs)) refl (storable-range g b o bs img (eqb-true _ _ e)) in
         store-miss (widthOf (g .granularity)) (width-is (g .granularity) .0) (address g b o) bs j
         (inner (b * g .size) (g .size) o (alignOf (widthOf (g .granularity)) (length bs)) j (l .inside) off)
 
@@ -125,7 +126,7 @@ write-units-miss : (g : Geometry) (b o : ℕ) (bs img : List ℕ) (j : ℕ) → 
     → All (Misses j) (write g b o bs img .events)
 unfolding write putting ask
 write-units-miss g b o bs img j h =
-    either j (eqb (writable g (length img) b o (length bs)) 0) _ _ img
+    either j (eqb (storable g b o bs img) 0) _ _ img
     (λ _. store-miss (widthOf (g .granularity)) (width-is (g .granularity) .0) (address g b o) bs j h) tt
 
 -- so they leave it

@@ -13,8 +13,10 @@ pub mod Places
 pub mod Aligned
 pub mod Checks
 pub mod Ranges
+pub mod Strict
 pub mod Stores
 pub mod Programs
 pub mod Traced
 pub mod Writes
+pub mod Marked
 pub mod Computed

@@ -22,7 +22,7 @@ use Rattle.medium.specs.Granularity.{pick, widthOf, unitsIn}
 use Rattle.medium.specs.Fuse.{spendOf, grantedOf, storedOf}
 use Rattle.medium.specs.Units.{FlashUnit, under, blank, unitsOf, erased}
 use Rattle.medium.specs.Operation.{flash, cost, apply, done, refused, putting, cutBy, cut, run, ended}
-use Rattle.medium.specs.Medium.{part, onto, readable, erasable, writable, readAt, write, erase}
+use Rattle.medium.specs.Medium.{part, onto, readable, erasable, writable, storable, readAt, write, erase}
 use Rattle.medium.specs.declared.fuse.Stored.the-variants.{Refused}
 use Rattle.medium.proofs.Runs.{cost-flash, prefix-flash, run-ask, leb-yes, leb-no, leb-is}
 use Rattle.medium.proofs.Bytes.{units-cut, length-units}
@@ -121,7 +121,7 @@ put-under f split a n k xs last e h q =
     rw (q, e, l) (sym (under-split a (f n) xs h′ ∙ ap (λ (t : List ℕ). take a xs ++ t) (split n (drop a xs))))
 
 -- a test that refuses leaves the fuse and the image
-pub write-refused : (g : Geometry) (image : List ℕ) (f : Fuse) (b o : ℕ) (d : List ℕ) (r : ℕ) → r ≡ writable g (length image) b o (length d) → (r ≡ 0 → ⊥) → ended (Refused r f) image ≡ run f (write g b o d) image
+pub write-refused : (g : Geometry) (image : List ℕ) (f : Fuse) (b o : ℕ) (d : List ℕ) (r : ℕ) → r ≡ storable g b o d image → (r ≡ 0 → ⊥) → ended (Refused r f) image ≡ run f (write g b o d) image
 unfolding write run
 write-refused g image f b o d r e h = rw (← e, ne-eqb _ _ h) (sym (run-ask f (λ _. refused r) image))
 
@@ -161,7 +161,7 @@ put-run (Units k) w hw a d img = go (leb-is (unitsIn w (length d)) k)
         rw (m, leb-no h, prefix-flash k (unitsOf w a d), t)
 
 -- what a write leaves whose tests were passed
-pub write-done : (g : Geometry) (image : List ℕ) (f : Fuse) (b o : ℕ) (d : List ℕ) (r w n : ℕ) (p : Spent) (u : ℕ) (q : Stored) (after : List ℕ) → r ≡ writable g (length image) b o (length d) → r ≡ 0 → w ≡ widthOf (g .granularity) → n ≡ unitsIn w (length d) → p ≡ spendOf f n → u ≡ grantedOf p n → q ≡ storedOf p → after ≡ under (b * g .size + o) (onto (u * w) d) image → ended q after ≡ run f (write g b o d) image
+pub write-done : (g : Geometry) (image : List ℕ) (f : Fuse) (b o : ℕ) (d : List ℕ) (r w n : ℕ) (p : Spent) (u : ℕ) (q : Stored) (after : List ℕ) → r ≡ storable g b o d image → r ≡ 0 → w ≡ widthOf (g .granularity) → n ≡ unitsIn w (length d) → p ≡ spendOf f n → u ≡ grantedOf p n → q ≡ storedOf p → after ≡ under (b * g .size + o) (onto (u * w) d) image → ended q after ≡ run f (write g b o d) image
 unfolding write run
 write-done g image f b o d r w n p u q after e z ew en ep eu eq ea =
     rw (← e, eq-eqb r 0 z, ea, eq, eu, ep, en, ew) (put-run f (widthOf (g .granularity)) (width-is (g .granularity) .0) (b * g .size + o) d image)

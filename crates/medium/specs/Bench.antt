@@ -14,11 +14,11 @@ use Rattle.medium.specs.Operation.{World, Run, EndIn, Op, run, numberOf}
 
 -- "A: Bit, 256-byte blocks, 4 of them, s=c=1. B: Word(4), C: Word(1), otherwise the same."
 abbrev pub four : Granularity → Geometry
-four k = record { granularity = k; s = 1; c = 1; size = 256; count = 4 }
+four k = record { granularity = k; s = 1; c = 1; strict = 0; size = 256; count = 4 }
 
 -- n blocks of 64 bytes
 abbrev pub blocks : ℕ → Granularity → Geometry
-blocks n k = record { granularity = k; s = 1; c = 1; size = 64; count = n }
+blocks n k = record { granularity = k; s = 1; c = 1; strict = 0; size = 64; count = n }
 
 -- n bytes x, but for some at an address
 abbrev pub filled : ℕ → ℕ → ℕ → List ℕ → List ℕ

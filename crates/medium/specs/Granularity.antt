@@ -60,6 +60,13 @@ unitsIn w n = (n + (w - 1)) / w
 abbrev pub alignOf : ℕ → ℕ → ℕ
 alignOf w n = unitsIn w n * w
 
+-- ---- the strict mark "goes with Word granularities only": the most that it can be
+
+abbrev pub mostStrict : Granularity → ℕ
+mostStrict Bit = 0
+mostStrict Word1 = 1
+mostStrict Word4 = 1
+
 -- ---- "Bytes of an object": state marks, size field at, object header
 
 abbrev pub finishAt : Granularity → ℕ

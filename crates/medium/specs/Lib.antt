@@ -5,7 +5,9 @@ pub mod Aligned
 pub mod Geometry
 pub mod Fuse
 pub mod Units
+pub mod Strict
 pub mod Operation
 pub mod Beside
 pub mod Medium
+pub mod Marked
 pub mod Bench

@@ -10,6 +10,7 @@ use Rattle.medium.specs.declared.geometry.Geometry.{Geometry}
 use Rattle.medium.specs.Granularity.{pick, widthOf, alignOf}
 use Rattle.medium.specs.Geometry.{admit, fitOf, address}
 use Rattle.medium.specs.Units.{FlashUnit, erased, unitsOf}
+use Rattle.medium.specs.Strict.{notErased}
 use Rattle.medium.specs.Operation.{Answer, done, refused, Op, refuse, putting}
 
 abbrev pub part : ℕ → ℕ → List ℕ → List ℕ
@@ -47,6 +48,12 @@ erasable g room b = admit g room (pick (ltb b (g .count)) 0 3)
 unfoldable pub alignedOf : Geometry → ℕ → Answer ℕ
 alignedOf g n = pick (eqb (fitOf g) 0) (done (alignOf (widthOf (g .granularity)) n)) (refused (fitOf g))
 
+-- and under the strict mark 10, after 3: the tests of one store
+unfoldable pub storable : Geometry → ℕ → ℕ → List ℕ → List ℕ → ℕ
+storable g b o bs img =
+    let r = writable g (length img) b o (length bs) in
+    pick (eqb r 0) (notErased (g .strict) (unitsAt g b o bs) img) r
+
 -- ---- the operations
 
 unfoldable pub readAt : Geometry → ℕ → ℕ → ℕ → List ℕ → Answer (List ℕ)
@@ -62,7 +69,7 @@ lent (refused n) = []
 
 unfoldable pub write : Geometry → ℕ → ℕ → List ℕ → Op (Unit {0})
 write g b o bs img =
-    let r = writable g (length img) b o (length bs) in
+    let r = storable g b o bs img in
     pick (eqb r 0) (λ i. putting (unitsOf (widthOf (g .granularity)) (address g b o) bs) tt i) (refuse r) img
 
 unfoldable pub erase : Geometry → ℕ → Op (Unit {0})

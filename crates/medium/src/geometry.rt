@@ -10,6 +10,7 @@ pub struct Geometry {
     pub granularity: Granularity,
     pub s: u8,
     pub c: u8,
+    pub strict: u8,
     pub size: u32,
     pub count: u32,
 }
@@ -31,8 +32,8 @@ impl GeometryRead {
     }
 }
 
-// The geometry of six numbers: granularity, s, c, a number that has to be 0, block size, block count. 6 for a number that its field
-// cannot hold. The geometry's rules are tested by the calls that it is handed to.
+// The geometry of six numbers: granularity, s, c, strict mark, block size, block count. 6 for a number that its field cannot hold.
+// The geometry's rules are tested by the calls that it is handed to.
 pub fn of_numbers(n: &[u32; 6]) -> GeometryRead
     ensures { λ r. ⌜ geometryAnswer r ≡ geometryOf (now (n .entry)) ⌝ }
 {
@@ -45,6 +46,7 @@ pub fn of_numbers(n: &[u32; 6]) -> GeometryRead
             granularity: k,
             s: n[1] as u8,
             c: n[2] as u8,
+            strict: n[3] as u8,
             size: n[4],
             count: n[5],
         });
@@ -52,7 +54,7 @@ pub fn of_numbers(n: &[u32; 6]) -> GeometryRead
     GeometryRead::Refused(6)
 }
 
-// Whether the first three numbers are bytes, and the fourth is 0.
+// Whether the first four numbers are bytes.
 fn fields_hold(n: &[u32; 6]) -> bool
     ensures { λ r. ⌜ r ≡ fieldsHold (now (n .entry)) ⌝ }
 {
@@ -65,7 +67,7 @@ fn fields_hold(n: &[u32; 6]) -> bool
     if 255 < n[2] {
         return false;
     }
-    n[3] == 0
+    n[3] <= 255
 }
 
 // 256 to the power of a field width from 1 to 3, and 0 for any other.
@@ -106,6 +108,10 @@ pub fn fit(g: Geometry) -> u8
     }
     let total = (size as usize) * (count as usize);
     if 16777216 < total {
+        return 6;
+    }
+    let k = g.granularity;
+    if k.most_strict() < g.strict {
         return 6;
     }
     0

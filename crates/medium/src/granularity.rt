@@ -1,7 +1,7 @@
 // How finely the chip is programmed, and every length and place that follows from it. One column of document 01's tables each.
 ghost use mathlib.Core.Path.{_≡_};
 ghost use Prim.Native.Nat.{_^_, _≤_, _<_};
-ghost use Rattle.medium.specs.Granularity.{granularityOf, granularityAnswer, granularityNumber, widestUnit, byteOf, widthOf, unitsIn, alignOf, finishAt, deleteAt, finishMark, sizeAt, header, blockHeader, typeAt, layoutBit};
+ghost use Rattle.medium.specs.Granularity.{granularityOf, granularityAnswer, granularityNumber, widestUnit, byteOf, widthOf, unitsIn, alignOf, mostStrict, finishAt, deleteAt, finishMark, sizeAt, header, blockHeader, typeAt, layoutBit};
 
 pub enum Granularity {
     Bit,
@@ -91,6 +91,20 @@ impl Granularity {
         let w = self.width();
         let n = n as usize;
         (n + w - 1) / w * w
+    }
+}
+
+// The strict mark.
+impl Granularity {
+    // The most that it can be: it goes with words only, since by the bit a delete programs the finish mark's byte again.
+    pub fn most_strict(self) -> u8
+        ensures { λ r. ⌜ r ≡ mostStrict self ⌝ }
+    {
+        match self {
+            Granularity::Bit => 0,
+            Granularity::Word1 => 1,
+            Granularity::Word4 => 1,
+        }
     }
 }
 

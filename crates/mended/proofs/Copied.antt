@@ -225,5 +225,6 @@ module _ (g : Geometry) (h : ObjectHeader) (to : ObjectLocation) (room : ℕ) (t
         fine = fine;
         metadata-end = sym (tour-metadata .end) ∙ r .metadata-end;
         data-end = ap (λ (y : Tour). y .end) tour-data ∙ r .data-end;
+        plain = r .plain;
         sound = subst (All (λ x. isSound g x m ≡ true)) (sym (tour-metadata .was)) (all-append (λ x. isSound g x m ≡ true) front (copy ∷ back) (s .0) (copy-sound, s .1));
       }

@@ -7,3 +7,4 @@ pub mod Readers
 pub mod Equal
 pub mod Payloads
 pub mod Listing
+pub mod Strict

@@ -93,7 +93,7 @@ read-length g b o n img bs e = go (eqb (readable g (length img) b o n) 0) refl e
 -- a sound geometry passes its test
 pub fit-fine : (g : Geometry) (room : ℕ) → Fine g room → fitOf g ≡ 0
 unfolding fitOf
-fit-fine g room v = rw (geometry-yes g (v .sound .least) (v .sound .small) (v .sound .quad) (v .sound .s-holds) (v .sound .some) (v .sound .c-holds) (v .sound .bound))
+fit-fine g room v = rw (geometry-yes g (v .sound .least) (v .sound .small) (v .sound .quad) (v .sound .s-holds) (v .sound .some) (v .sound .c-holds) (v .sound .bound) (v .sound .mark))
 
 -- bytes that were read for a location are one
 pub located : (g : Geometry) (b o : ℕ) (img bs : List ℕ) → readAt g b o (locationLength g) img ≡ done bs → fromBytes g bs ≡ locationAt g b o img

@@ -17,6 +17,7 @@ use Rattle.medium.proofs.granularity.Granularity.of_byte.Reads as granularity-G
 use Rattle.medium.proofs.granularity.Granularity.byte.Reads as granularity-Granularity-byte
 use Rattle.medium.proofs.granularity.Granularity.width.Reads as granularity-Granularity-width
 use Rattle.medium.proofs.granularity.Granularity.align.Reads as granularity-Granularity-align
+use Rattle.medium.proofs.granularity.Granularity.most_strict.Reads as granularity-Granularity-most-strict
 use Rattle.medium.proofs.granularity.Granularity.finish_at.Reads as granularity-Granularity-finish-at
 use Rattle.medium.proofs.granularity.Granularity.delete_at.Reads as granularity-Granularity-delete-at
 use Rattle.medium.proofs.granularity.Granularity.finish_mark.Reads as granularity-Granularity-finish-mark
@@ -26,6 +27,7 @@ use Rattle.medium.proofs.granularity.Granularity.block_header.Reads as granular
 use Rattle.medium.proofs.granularity.Granularity.type_at.Reads as granularity-Granularity-type-at
 use Rattle.medium.proofs.granularity.Granularity.layout_bit.Reads as granularity-Granularity-layout-bit
 use Rattle.medium.proofs.reach.Reads as reach
+use Rattle.medium.proofs.is_erased.Reads as is-erased
 use Rattle.medium.proofs.lend.Reads as lend
 use Rattle.medium.proofs.read.Reads as read
 use Rattle.medium.proofs.write.Reads as write
@@ -73,6 +75,9 @@ granularity-Granularity-width-one _ _ r r′ e e′ p q = p ∙ sym q
 pub granularity-Granularity-align-one : One granularity-Granularity-align.Post (λ _ r e r′ e′. r ≡ r′)
 granularity-Granularity-align-one _ _ r r′ e e′ p q = p ∙ sym q
 
+pub granularity-Granularity-most-strict-one : One granularity-Granularity-most-strict.Post (λ _ r e r′ e′. r ≡ r′)
+granularity-Granularity-most-strict-one _ _ r r′ e e′ p q = p ∙ sym q
+
 pub granularity-Granularity-finish-at-one : One granularity-Granularity-finish-at.Post (λ _ r e r′ e′. r ≡ r′)
 granularity-Granularity-finish-at-one _ _ r r′ e e′ p q = p ∙ sym q
 
@@ -99,6 +104,9 @@ granularity-Granularity-layout-bit-one _ _ r r′ e e′ p q = p ∙ sym q
 
 pub reach-one : One reach.Post (λ _ r e r′ e′. r ≡ r′)
 reach-one _ _ r r′ e e′ p q = p ∙ sym q
+
+pub is-erased-one : One is-erased.Post (λ _ r e r′ e′. r ≡ r′)
+is-erased-one _ _ r r′ e e′ p q = p ∙ sym q
 
 pub lend-one : One lend.Post (λ _ r e r′ e′. now r ≡ now r′)
 lend-one _ _ r r′ e e′ p q = p ∙ sym q

@@ -41,7 +41,8 @@ use Rattle.shown.proofs.Reading.{stateSeen, Stands, state-read}
 use Rattle.fresh.proofs.Written.{unfinished, stands-new}
 use Rattle.fresh.proofs.Again.{over-begun, over-free, before-programs, mark-programs}
 use Rattle.powercut.proofs.Crash.{original-before, original-between}
-use Rattle.powercut.proofs.Ran.{Ready, Able, able, source-of, move-ran, delete-ran}
+use Rattle.powercut.proofs.Ran.{Ready, Able, source-of, moved-ran}
+use Rattle.powercut.proofs.Modes.{delete-ran}
 use Rattle.powercut.proofs.Survive.{N, us, all-copied, as-copied, cut-before, cut-between, units-are, copy-is, original-whole, move-traced, ready}
 
 -- ---- a finished object cannot be allocated over
@@ -121,9 +122,9 @@ module _ (g : Geometry) (h : ObjectHeader) (to : ObjectLocation) (t : ObjectType
       go (inr e) = on (Allocated t Untrusted) e (over-begun t)
 
   -- so the second move stores the units of the first
-  traced-again : (k : ℕ) → k ≤ n → moveObject g h to (at-cut k) ≡ ran units (copyOf g h to)
-  traced-again k c =
-      move-ran g h to t pay (at-cut k) (subst (λ (vs : List FlashUnit). Able g h to t pay (apply vs img)) (sym (cut-before g h to t pay img r k c)) (able-begun k))
+  traced-again : (g .strict ≡ 1 → ⊥) → (k : ℕ) → k ≤ n → moveObject g h to (at-cut k) ≡ ran units (copyOf g h to)
+  traced-again off k c =
+      moved-ran g h to t pay (at-cut k) (subst (λ (vs : List FlashUnit). Able g h to t pay (apply vs img)) (sym (cut-before g h to t pay img r k c)) (able-begun k)) off
       ∙ ap (ran units) (copy-is g h to t pay img r)
 
   pub left-is : (k : ℕ) → leftBy g h to img k ≡ at-cut k
@@ -136,25 +137,25 @@ module _ (g : Geometry) (h : ObjectHeader) (to : ObjectLocation) (t : ObjectType
       ∙ cut-twice units k (length units) img all-program
       ∙ ap (λ (vs : List FlashUnit). apply vs img) (take-all (max k (length units)) units (omega arith))
 
-  resumes-at : (k : ℕ) → k ≤ n → (left : List ℕ) → left ≡ at-cut k → run Absent (moveObject g h to) left ≡ run Absent (moveObject g h to) img
-  resumes-at k c left e =
+  resumes-at : (g .strict ≡ 1 → ⊥) → (k : ℕ) → k ≤ n → (left : List ℕ) → left ≡ at-cut k → run Absent (moveObject g h to) left ≡ run Absent (moveObject g h to) img
+  resumes-at off k c left e =
       ap (run Absent (moveObject g h to)) e
-      ∙ power-cut (moveObject g h to) units (copyOf g h to) (at-cut k) (traced-again k c)
+      ∙ power-cut (moveObject g h to) units (copyOf g h to) (at-cut k) (traced-again off k c)
       ∙ ap (λ (m : List ℕ). record { answer = done (copyOf g h to); fuse = Absent; state = m }) (ends-alike k c)
       ∙ sym (power-cut (moveObject g h to) units (copyOf g h to) img (move-traced g h to t pay img r))
 
-  cut-again-at : (k : ℕ) → k ≤ n → (left : List ℕ) → left ≡ at-cut k → (i : ℕ) → run (Units i) (moveObject g h to) left
+  cut-again-at : (g .strict ≡ 1 → ⊥) → (k : ℕ) → k ≤ n → (left : List ℕ) → left ≡ at-cut k → (i : ℕ) → run (Units i) (moveObject g h to) left
       ≡ record { answer = run (Units i) (moveObject g h to) img .answer; fuse = run (Units i) (moveObject g h to) img .fuse; state = leftBy g h to img (max k i) }
-  cut-again-at k c left e i =
+  cut-again-at off k c left e i =
       ap (run (Units i) (moveObject g h to)) e
-      ∙ same-cut (moveObject g h to) units (copyOf g h to) img (move-traced g h to t pay img r) (at-cut k) (traced-again k c) i
+      ∙ same-cut (moveObject g h to) units (copyOf g h to) img (move-traced g h to t pay img r) (at-cut k) (traced-again off k c) i
       ∙ ap (λ (m : List ℕ). record { answer = run (Units i) (moveObject g h to) img .answer; fuse = run (Units i) (moveObject g h to) img .fuse; state = m })
-      (state-cut (moveObject g h to) units (copyOf g h to) (at-cut k) (traced-again k c) i ∙ cut-twice units k i img all-program ∙ sym (left-is (max k i)))
+      (state-cut (moveObject g h to) units (copyOf g h to) (at-cut k) (traced-again off k c) i ∙ cut-twice units k i img all-program ∙ sym (left-is (max k i)))
 
-  pub resumes : (k : ℕ) → k ≤ unitsTo g h → Resumes g h to img k
-  resumes k c =
+  pub resumes : (g .strict ≡ 1 → ⊥) → (k : ℕ) → k ≤ unitsTo g h → Resumes g h to img k
+  resumes off k c =
       let d : k ≤ n = omega (arith, units-are g h to t pay img r) in
-      record { with-power = resumes-at k d (leftBy g h to img k) (left-is k); cut-again = cut-again-at k d (leftBy g h to img k) (left-is k) }
+      record { with-power = resumes-at off k d (leftBy g h to img k) (left-is k); cut-again = cut-again-at off k d (leftBy g h to img k) (left-is k) }
 
   -- ---- between the marks
 
@@ -170,7 +171,7 @@ module _ (g : Geometry) (h : ObjectHeader) (to : ObjectLocation) (t : ObjectType
 
   deleted-both : run Absent (setState g h Deleted) both ≡ record { answer = done (goneOf h t); fuse = Absent; state = run Absent (moveObject g h to) img .state }
   deleted-both =
-      power-cut (setState g h Deleted) (deleteUnits gr p) (goneOf h t) both (delete-ran g h to t pay img (able g h to t pay img r) both (length-apply (all-copied g h to t pay img r) img))
+      power-cut (setState g h Deleted) (deleteUnits gr p) (goneOf h t) both (delete-ran g h to t pay img r)
       ∙ ap (λ (m : List ℕ). record { answer = done (goneOf h t); fuse = Absent; state = m })
       (sym (apply-append (all-copied g h to t pay img r) (deleteUnits gr p) img) ∙ ap (λ (vs : List FlashUnit). apply vs img) (sym (as-copied g h to t pay img r))
       ∙ ap (λ (e : End ObjectHeader). e .state) (sym (power-cut (moveObject g h to) units (copyOf g h to) img (move-traced g h to t pay img r))))
@@ -185,6 +186,6 @@ pub again : Again
 unfolding Again
 again g h to room t img v =
     let r : Ready g h to t (payloadIn g h img) img = ready g h to room t img v in (
-      λ k c. resumes g h to t (payloadIn g h img) img r k c,
+      λ off k c. resumes g h to t (payloadIn g h img) img r off k c,
       completes g h to t (payloadIn g h img) img r,
     )

@@ -24,7 +24,8 @@ use Rattle.powercut.specs.Stores.{before}
 use Rattle.fresh.proofs.Written.{length-new, cut-before, cut-all, unfinished, stands-new, framed}
 use Rattle.powercut.proofs.Crash.{original-cut}
 use Rattle.medium.proofs.Traced.{ran}
-use Rattle.powercut.proofs.Ran.{Ready, able, copy-ran}
+use Rattle.powercut.proofs.Ran.{Ready}
+use Rattle.powercut.proofs.Modes.{copy-ran}
 use Rattle.powercut.proofs.Survive.{all-copied, N, copy-is, original-whole, copy-whole, copy-unfinished, span-is, units-are, ready, demand}
 
 pub never-gone : NeverGone
@@ -69,7 +70,7 @@ module _ (g : Geometry) (h : ObjectHeader) (to : ObjectLocation) (t : ObjectType
   begun = before (g .granularity) (g .s) t pay (addressOf g to)
 
   copy-traced : copyObject g h to img ≡ ran us (copyOf g h to)
-  copy-traced = copy-ran g h to t pay img (able g h to t pay img r) ∙ ap₂ (λ (u : List FlashUnit) (x : ObjectHeader). ran u x) (simp append-assoc) (copy-is g h to t pay img r)
+  copy-traced = copy-ran g h to t pay img r ∙ ap (ran us) (copy-is g h to t pay img r)
 
   kept-at : (k : ℕ) → Kept g h to t pay img (apply (take k us) img)
   kept-at k =

@@ -3,13 +3,15 @@ use mathlib.Core.Path.{_≡_, refl}
 use mathlib.Core.Logic.{inl}
 use mathlib.Core.List.{List, [], _∷_}
 use Prim.Native.Nat.{ℕ, _-_, _≤_, _<_}
+use native.Mathlib.Omega.{arith}
 use lib.Dec.{lit<, lit≤}
 use Rattle.medium.specs.declared.granularity.Granularity.the-variants.{Bit, Word1, Word4}
 use Rattle.medium.specs.declared.fuse.Fuse.the-variants.{Absent, Units}
 use Rattle.medium.specs.Geometry.{geometryOk, admit}
 use Rattle.medium.specs.Operation.{_>>=_, ask, test, putting, run}
 use Rattle.medium.specs.Bench.{four, holding}
-use Rattle.medium.specs.Medium.{readable, writable, readAt, write}
+use Rattle.medium.specs.Strict.{notErased}
+use Rattle.medium.specs.Medium.{readable, writable, storable, readAt, write}
 use Rattle.objects.specs.declared.types.ObjectType.the-variants.{FileData}
 use Rattle.objects.specs.declared.state.ObjectDataState.the-variants.{Valid}
 use Rattle.objects.specs.declared.state.CompositeObjectState.the-variants.{Allocated}
@@ -52,6 +54,7 @@ movable-bit =
     record {
       fine = refl;
       bytes = bytes-by imageA tt;
+      free-mark = λ z. absurd (omega arith);
       just-read = refl;
       finished = refl;
       aligned = refl;
@@ -70,6 +73,7 @@ movable-byte =
     record {
       fine = refl;
       bytes = bytes-by imageC tt;
+      free-mark = λ z. absurd (omega arith);
       just-read = refl;
       finished = refl;
       aligned = refl;
@@ -88,6 +92,7 @@ movable-word =
     record {
       fine = refl;
       bytes = bytes-by imageB tt;
+      free-mark = λ z. absurd (omega arith);
       just-read = refl;
       finished = refl;
       aligned = refl;
@@ -108,6 +113,7 @@ movable-behind =
     record {
       fine = refl;
       bytes = bytes-by imageA tt;
+      free-mark = λ z. absurd (omega arith);
       just-read = refl;
       finished = refl;
       aligned = refl;
@@ -141,6 +147,7 @@ movable-end =
     record {
       fine = refl;
       bytes = bytes-by imageA tt;
+      free-mark = λ z. absurd (omega arith);
       just-read = refl;
       finished = refl;
       aligned = refl;
@@ -196,6 +203,7 @@ movable-last =
     record {
       fine = refl;
       bytes = bytes-by imageEmpty tt;
+      free-mark = λ z. absurd (omega arith);
       just-read = refl;
       finished = refl;
       aligned = refl;
@@ -209,5 +217,5 @@ movable-last =
     }
 
 pub not-listed : (copiesBefore (four Bit) empty (place 2 253) FileData imageEmpty ≡ 1) × (copiesAfter (four Bit) empty (place 2 253) FileData imageEmpty Absent ≡ 0)
-unfolding geometryOk admit _>>=_ ask test putting run readable writable readAt write typeOf markOf marksOf stateIn stateAt sizedAt headerAt payloadOf totalOf allocatableOf marking setState sizableOf setPayloadSize infoAt nextOf listFrom listing readerAt remainingOf leftOf readSome soundOf allocate mayWrite putBytes writeSome mayFinish flush close finalize sourceAt chunk copying copyObject moveObject equal payloadRead isCopy
+unfolding geometryOk admit _>>=_ ask test putting run readable writable storable notErased readAt write typeOf markOf marksOf stateIn stateAt sizedAt headerAt payloadOf totalOf allocatableOf marking setState sizableOf setPayloadSize infoAt nextOf listFrom listing readerAt remainingOf leftOf readSome soundOf allocate mayWrite putBytes writeSome mayFinish flush close finalize sourceAt chunk copying copyObject moveObject equal payloadRead isCopy
 not-listed = (refl, refl)

@@ -1,5 +1,6 @@
 pub mod Crash
 pub mod Ran
+pub mod Modes
 pub mod Survive
 pub mod Answers
 pub mod Again

@@ -72,6 +72,7 @@ pub record Ready (g : Geometry) (h : ObjectHeader) (to : ObjectLocation) (t : Ob
   pub aligned-to : to .offset % widthOf (g .granularity) ≡ 0
   pub in-block-to : to .offset + span (g .granularity) (g .s) (length pay) ≤ g .size
   pub given : Given (g .granularity) (g .s) t (address g (h .location .block) (h .location .offset)) (address g (to .block) (to .offset)) (h .size) pay img
+  pub free-mark : g .strict ≡ 1 → (i : ℕ) → i < widthOf (g .granularity) → getD img (address g (h .location .block) (h .location .offset) + deleteAt (g .granularity) + i) 0 ≡ 255
 
 -- an image that has the original's header and payload as a ready one has them, and a state at the destination that can be allocated over
 pub record Able (g : Geometry) (h : ObjectHeader) (to : ObjectLocation) (t : ObjectType) (pay img : List ℕ) : Type 0 where
@@ -99,7 +100,9 @@ able g h to t pay img v =
       allocatable = refl;
     }
 
-module _ (g : Geometry) (h : ObjectHeader) (to : ObjectLocation) (t : ObjectType) (pay img : List ℕ) (v : Able g h to t pay img) where
+-- ---- without the strict mark
+
+module _ (g : Geometry) (h : ObjectHeader) (to : ObjectLocation) (t : ObjectType) (pay img : List ℕ) (v : Able g h to t pay img) (plain : g .strict ≡ 1 → ⊥) where
   abbrev gr : Granularity
   gr = g .granularity
 
@@ -138,10 +141,10 @@ module _ (g : Geometry) (h : ObjectHeader) (to : ObjectLocation) (t : ObjectType
   place-to = record { fine = fine-now; block = v .ready .block-to; aligned = v .ready .aligned-to; in-block = v .ready .in-block-to }
 
   abbrev writer : ℕ → List ℕ → ObjectWriter
-  writer cur tl = fresh.writer g to t pay (length img) place-to cur tl
+  writer cur tl = fresh.writer g to t pay (length img) place-to plain cur tl
 
   abbrev whole : List ℕ → List ℕ → ℕ
-  whole tl c = fresh.whole g to t pay (length img) place-to tl c
+  whole tl c = fresh.whole g to t pay (length img) place-to plain tl c
 
   abbrev copy : ObjectHeader
   copy = headerOf (Allocated t Valid) (length pay) to
@@ -150,7 +153,7 @@ module _ (g : Geometry) (h : ObjectHeader) (to : ObjectLocation) (t : ObjectType
   closing = sizeUnits (g .granularity) (g .s) (length pay) q ++ markUnits (g .granularity) q
 
   abbrev closed : ObjectWriter
-  closed = fresh.closed g to t pay (length img) place-to
+  closed = fresh.closed g to t pay (length img) place-to plain
 
   still : (m : List ℕ) → length m ≡ length img → checkOf g (length m) ≡ 0
   still m e = ap (checkOf g) e ∙ fine-now
@@ -162,7 +165,7 @@ module _ (g : Geometry) (h : ObjectHeader) (to : ObjectLocation) (t : ObjectType
   put-original : (m : List ℕ) (x : ℕ) (bs : List ℕ) → length m ≡ length img → x % w ≡ 0 → x + alignOf w (length bs) ≤ sp → write g b (off + x) bs m ≡ ran (unitsOf w (p + x) bs) tt
   put-original m x bs e a r =
       let ad : address g (h .location .block) (h .location .offset + x) ≡ p + x = omega arith in
-      write-ran g (h .location .block) (h .location .offset + x) bs m (still m e) (v .ready .block) (even-add (g .granularity) (h .location .offset) x (v .ready .aligned) a) (omega (arith, v .ready .in-block))
+      write-ran g (h .location .block) (h .location .offset + x) bs m (still m e) (v .ready .block) (even-add (g .granularity) (h .location .offset) x (v .ready .aligned) a) (omega (arith, v .ready .in-block)) (λ on. absurd (plain on))
       ∙ ap (λ (i : ℕ). ran (unitsOf w i bs) tt) ad
 
   -- a turn's units and those of the later turns are those of one store
@@ -260,7 +263,7 @@ module _ (g : Geometry) (h : ObjectHeader) (to : ObjectLocation) (t : ObjectType
   unfolding chunk
   chunk-ran cur tl from n c m e r hc lt hl z =
       asked (readAt g b from n) (λ bs. writeSome g (writer cur tl) bs) m (unitsOf w (q + H + cur) (take (whole tl c) (tl ++ c))) c (writer (cur + whole tl c) (drop (whole tl c) (tl ++ c)))
-      (read-yes g b from n m (still m e) (v .ready .block) r ∙ ap done (sym hc)) (fresh.some-ran g to t pay (length img) place-to cur tl c m e lt hl z)
+      (read-yes g b from n m (still m e) (v .ready .block) r ∙ ap done (sym hc)) (fresh.some-ran g to t pay (length img) place-to plain cur tl c m e lt hl z)
 
   -- one turn, from what the later turns leave; the chunk and the count are variables here, so that nothing is written out
   turn : (k cur : ℕ) (tl : List ℕ) (from rest : ℕ) (m : List ℕ) (n : ℕ) (c : List ℕ) → n ≡ min 16 rest → c ≡ part (address g b from) n m → c ≡ part (address g b from) n img
@@ -314,9 +317,9 @@ module _ (g : Geometry) (h : ObjectHeader) (to : ObjectLocation) (t : ObjectType
       (omega arith) (λ x. omega arith)
       (turn-kept cur tl rest (min 16 rest) c m (omega arith) lc e kept))
 
-  pub delete-ran : (m : List ℕ) → length m ≡ length img → setState g h Deleted m ≡ ran (deleteUnits gr p) (headerOf (Allocated t Deleted) (h .size) (h .location))
+  pub deleted-ran : (m : List ℕ) → length m ≡ length img → setState g h Deleted m ≡ ran (deleteUnits gr p) (headerOf (Allocated t Deleted) (h .size) (h .location))
   unfolding setState marking
-  delete-ran m e =
+  deleted-ran m e =
       ap (λ (st : CompositeObjectState). (test {W = flash} (λ i. checkOf g (length i)) >> stepTo g h Deleted st) m) (v .ready .finished)
       ∙ tested (λ i. checkOf g (length i)) (marking g h t Deleted) m (deleteUnits gr p) (headerOf (Allocated t Deleted) (h .size) (h .location)) (still m e)
       (store-ran (write g b (off + deleteAt gr) (0 ∷ [])) m (deleteUnits gr p) (headerOf (Allocated t Deleted) (h .size) (h .location))
@@ -349,7 +352,7 @@ module _ (g : Geometry) (h : ObjectHeader) (to : ObjectLocation) (t : ObjectType
       bind-ran (copying (turnsOf (length pay)) g b (off + H) (length pay) (writer 0 [])) (λ x. finalize g x >>= λ y. give (y .object)) m
       (x .us) (u ++ closing) (writer (x .last-cur) (x .last-tl)) copy (x .ran-is)
       (bind-ran (finalize g (writer (x .last-cur) (x .last-tl))) (λ y. give (y .object)) i (u ++ closing) [] closed copy
-      (fresh.finalize-ran g to t pay (length img) place-to (x .last-cur) (x .last-tl) i e (x .total) (x .on-word) (x .short)) (ask-ran (λ _. done copy) (apply (u ++ closing) i) copy refl)
+      (fresh.finalize-ran g to t pay (length img) place-to plain (x .last-cur) (x .last-tl) i e (x .total) (x .on-word) (x .short)) (ask-ran (λ _. done copy) (apply (u ++ closing) i) copy refl)
       ∙ ap (λ (us : List FlashUnit). ran us copy) (append-nil (u ++ closing)))
       ∙ ap (λ (us : List FlashUnit). ran us copy)
       (sym (append-assoc (x .us) u closing) ∙ ap (λ (us : List FlashUnit). us ++ closing) (x .units-are ∙ ap₂ (unitsOf w) a2 pays))
@@ -358,20 +361,20 @@ module _ (g : Geometry) (h : ObjectHeader) (to : ObjectLocation) (t : ObjectType
   abbrev pub copyUnits : List FlashUnit
   copyUnits = typeUnits gr t q ++ (payUnits gr (g .s) pay q ++ closing)
 
-  pub copy-ran : copyObject g h to img ≡ ran copyUnits copy
+  pub copied-ran : copyObject g h to img ≡ ran copyUnits copy
   unfolding copyObject
-  copy-ran =
+  copied-ran =
       asked (sourceAt g h) (λ src. allocate g to (src .kind) >>= λ x. copying (turnsOf (src .size)) g b (off + H) (src .size) x >>= λ y. finalize g y >>= λ z. give (z .object)) img
       copyUnits (record { kind = t; size = length pay }) copy source-ran
       (bind-ran (allocate g to t) (λ x. copying (turnsOf (length pay)) g b (off + H) (length pay) x >>= λ y. finalize g y >>= λ z. give (z .object)) img
-      (typeUnits gr t q) (payUnits gr (g .s) pay q ++ closing) (writer 0 []) copy (fresh.allocate-ran g to t pay (length img) place-to img refl (v .there) (v .state-there) (v .allocatable)) (rest-ran copied-all))
+      (typeUnits gr t q) (payUnits gr (g .s) pay q ++ closing) (writer 0 []) copy (fresh.allocate-ran g to t pay (length img) place-to plain img refl (v .there) (v .state-there) (v .allocatable)) (rest-ran copied-all))
 
-  pub move-ran : moveObject g h to img ≡ ran (moveUnits gr (g .s) t pay p q) copy
+  pub moved-ran : moveObject g h to img ≡ ran (moveUnits gr (g .s) t pay p q) copy
   unfolding moveObject
-  move-ran =
+  moved-ran =
       let gone : ObjectHeader = headerOf (Allocated t Deleted) (h .size) (h .location) in
-      bind-ran (copyObject g h to) (λ new. setState g h Deleted >>= λ _. give new) img copyUnits (deleteUnits gr p) copy copy copy-ran
+      bind-ran (copyObject g h to) (λ new. setState g h Deleted >>= λ _. give new) img copyUnits (deleteUnits gr p) copy copy copied-ran
       (bind-ran (setState g h Deleted) (λ _. give copy) (apply copyUnits img) (deleteUnits gr p) [] gone copy
-      (delete-ran (apply copyUnits img) (length-apply copyUnits img)) (ask-ran (λ _. done copy) (apply (deleteUnits gr p) (apply copyUnits img)) copy refl)
+      (deleted-ran (apply copyUnits img) (length-apply copyUnits img)) (ask-ran (λ _. done copy) (apply (deleteUnits gr p) (apply copyUnits img)) copy refl)
       ∙ ap (λ (us : List FlashUnit). ran us copy) (append-nil (deleteUnits gr p)))
       ∙ ap (λ (us : List FlashUnit). ran us copy) (simp append-assoc)

@@ -40,7 +40,8 @@ use Rattle.fresh.specs.Fresh.{Room}
 use Rattle.fresh.proofs.Fresh.{new-of}
 use Rattle.powercut.proofs.Crash.{original-before, original-between, original-after, size-after, copy-after, framed-moved}
 use Rattle.medium.proofs.Traced.{ran}
-use Rattle.powercut.proofs.Ran.{Ready, able, move-ran}
+use Rattle.powercut.proofs.Ran.{Ready}
+use Rattle.powercut.proofs.Modes.{move-ran}
 
 module _ (g : Geometry) (h : ObjectHeader) (to : ObjectLocation) (t : ObjectType) (pay img : List ℕ) (r : Ready g h to t pay img) where
   abbrev gr : Granularity
@@ -147,7 +148,7 @@ module _ (g : Geometry) (h : ObjectHeader) (to : ObjectLocation) (t : ObjectType
   traced = ran us (copyOf g h to)
 
   pub move-traced : moveObject g h to img ≡ traced
-  move-traced = move-ran g h to t pay img (able g h to t pay img r) ∙ ap (ran us) copy-is
+  move-traced = move-ran g h to t pay img r ∙ ap (ran us) copy-is
 
   survives-by : (k : ℕ) (e : End ObjectHeader) → e .state ≡ apply (take k us) img → (k < N + 2 → (e .answer ≡ refused 8) × (e .fuse ≡ Units 0))
       → (N + 2 ≤ k → (e .answer ≡ done (copyOf g h to)) × (e .fuse ≡ Units (k - (N + 2)))) → Survives g h to t pay img k e
@@ -287,6 +288,7 @@ module _ (g : Geometry) (h : ObjectHeader) (to : ObjectLocation) (room : ℕ) (t
               original-fits = within (h .location .block) (h .location .offset) (span (g .granularity) (g .s) (length (payloadIn g h img))) (g .size) (g .count) (length img) (told .block) in-block (fine-is .whole);
               apart = apart-is;
             };
+        free-mark = v .free-mark;
       }
 
 pub demand : Demand

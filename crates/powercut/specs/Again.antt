@@ -1,7 +1,7 @@
 -- What can be done after a cut: the same move again, same header and same place.
 --
--- Before the copy's finish mark it ends as the uncut move does, byte for byte, and it may itself be cut. Between the marks it gives 4 and
--- stores nothing, and deleting the original ends as the uncut move does.
+-- Before the copy's finish mark it ends as the uncut move does, byte for byte, and it may itself be cut; that is without the strict mark. Between
+-- the marks it gives 4 and stores nothing, and deleting the original ends as the uncut move does, under the mark too.
 use mathlib.Core.Path.{_≡_}
 use mathlib.Core.List.{List}
 use Prim.Native.Nat.{ℕ, _+_, _≤_, max}
@@ -44,4 +44,4 @@ pub record Completes (g : Geometry) (h : ObjectHeader) (to : ObjectLocation) (t 
 unfoldable pub Again : Type 0
 Again =
     (g : Geometry) (h : ObjectHeader) (to : ObjectLocation) (room : ℕ) (t : ObjectType) (img : List ℕ) → Movable g h to room t img
-    → ((k : ℕ) → k ≤ unitsTo g h → Resumes g h to img k) × Completes g h to t img (leftBy g h to img (unitsTo g h + 1))
+    → ((g .strict ≡ 1 → ⊥) → (k : ℕ) → k ≤ unitsTo g h → Resumes g h to img k) × Completes g h to t img (leftBy g h to img (unitsTo g h + 1))

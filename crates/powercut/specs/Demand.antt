@@ -49,6 +49,8 @@ pub record Movable (g : Geometry) (h : ObjectHeader) (to : ObjectLocation) (room
   pub finished : h .state ≡ Allocated t Valid
   pub aligned : h .location .offset % widthOf (g .granularity) ≡ 0
   pub whole : h .location .offset + totalOf (g .granularity) (g .s) h ≤ g .size
+  -- under the strict mark, "where the unit of the original's delete mark is all FF"
+  pub free-mark : g .strict ≡ 1 → (i : ℕ) → i < widthOf (g .granularity) → getD img (addressOf g (h .location) + deleteAt (g .granularity) + i) 0 ≡ 255
   -- a destination of `room` bytes in one block: erased, aligned, large enough and apart from the object
   pub block : to .block < g .count
   pub in-block : to .offset + room ≤ g .size

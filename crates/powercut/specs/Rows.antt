@@ -16,7 +16,8 @@ use Rattle.medium.specs.Granularity.{pick, widthOf}
 use Rattle.medium.specs.Geometry.{geometryOk, admit, checkOf}
 use Rattle.medium.specs.Operation.{Answer, done, refused, _>>=_, ask, test, putting, run, numberOf}
 use Rattle.medium.specs.Bench.{blocks, holding, all, same}
-use Rattle.medium.specs.Medium.{part, readable, writable, readAt, write}
+use Rattle.medium.specs.Strict.{notErased}
+use Rattle.medium.specs.Medium.{part, readable, writable, storable, readAt, write}
 use Rattle.objects.specs.declared.types.ObjectType.the-variants.{FileData}
 use Rattle.objects.specs.declared.state.ObjectDataState.the-variants.{Valid}
 use Rattle.objects.specs.declared.state.CompositeObjectState.the-variants.{Allocated}
@@ -46,7 +47,7 @@ abbrev small : Geometry
 small = two Bit
 
 abbrev two-bytes : ℕ → Geometry
-two-bytes n = record { granularity = Bit; s = 2; c = 1; size = n; count = 2 }
+two-bytes n = record { granularity = Bit; s = 2; c = 1; strict = 0; size = n; count = 2 }
 
 abbrev place : ℕ → ℕ → ObjectLocation
 place b o = record { block = b; offset = o }
@@ -202,5 +203,5 @@ table =
     ∷ []
 
 pub rows : all table ≡ true
-unfolding geometryOk admit _>>=_ ask test putting run readable writable readAt write typeOf markOf pairOf marksOf stateIn stateAt sizedAt headerAt payloadOf totalOf allocatableOf marking setState sizableOf setPayloadSize infoAt nextOf listFrom listing readerAt remainingOf leftOf readSome soundOf allocate mayWrite putBytes writeSome mayFinish flush close finalize sourceAt chunk copying copyObject moveObject equal payloadRead isCopy kindOfType marked blank padded namedKind kindIn blockHeaderAt scanUnknown scanBlock
+unfolding geometryOk admit _>>=_ ask test putting run readable writable storable notErased readAt write typeOf markOf pairOf marksOf stateIn stateAt sizedAt headerAt payloadOf totalOf allocatableOf marking setState sizableOf setPayloadSize infoAt nextOf listFrom listing readerAt remainingOf leftOf readSome soundOf allocate mayWrite putBytes writeSome mayFinish flush close finalize sourceAt chunk copying copyObject moveObject equal payloadRead isCopy kindOfType marked blank padded namedKind kindIn blockHeaderAt scanUnknown scanBlock
 rows = refl

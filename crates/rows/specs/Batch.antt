@@ -10,7 +10,8 @@ use Rattle.medium.specs.declared.fuse.Fuse.{Fuse}
 use Rattle.medium.specs.declared.fuse.Fuse.the-variants.{Absent, Units}
 use Rattle.medium.specs.Geometry.{geometryOk, admit}
 use Rattle.medium.specs.Operation.{_>>=_, ask, test, putting, run}
-use Rattle.medium.specs.Medium.{readable, writable, readAt, write}
+use Rattle.medium.specs.Strict.{notErased}
+use Rattle.medium.specs.Medium.{readable, writable, storable, readAt, write}
 use Rattle.medium.specs.Beside.{both, onImage}
 use Rattle.medium.specs.Bench.{blocks, holding, all, same, ends}
 use Rattle.objects.specs.Types.{typeOf, objectTypeOf, markOf, pairOf, marksOf, stateIn}
@@ -93,5 +94,5 @@ lists =
     ∷ []
 
 pub rows : all (cuts ++ turns ++ readings ++ lists) ≡ true
-unfolding geometryOk admit _>>=_ ask test putting run readable writable readAt write onImage typeOf objectTypeOf markOf pairOf marksOf stateIn stateAt allocatableOf payloadOf payloadSizeOf marking setState sizableOf setPayloadSize totalOf soundOf allocate mayWrite putBytes writeSome mayFinish flush close finalize writeTo recordsIn batchable lentTo writeRecord writing writeAll
+unfolding geometryOk admit _>>=_ ask test putting run readable writable storable notErased readAt write onImage typeOf objectTypeOf markOf pairOf marksOf stateIn stateAt allocatableOf payloadOf payloadSizeOf marking setState sizableOf setPayloadSize totalOf soundOf allocate mayWrite putBytes writeSome mayFinish flush close finalize writeTo recordsIn batchable lentTo writeRecord writing writeAll
 rows = refl

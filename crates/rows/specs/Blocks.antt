@@ -11,7 +11,8 @@ use Rattle.medium.specs.declared.geometry.Geometry.{Geometry}
 use Rattle.medium.specs.declared.fuse.Fuse.the-variants.{Absent, Units}
 use Rattle.medium.specs.Geometry.{geometryOk, admit}
 use Rattle.medium.specs.Operation.{Answer, done, refused, _>>=_, ask, test, putting, run, numberOf}
-use Rattle.medium.specs.Medium.{readable, writable, erasable, readAt, write, erase}
+use Rattle.medium.specs.Strict.{notErased}
+use Rattle.medium.specs.Medium.{readable, writable, storable, erasable, readAt, write, erase}
 use Rattle.medium.specs.Bench.{blocks, holding, all, same, row}
 use Rattle.objects.specs.Types.{typeOf, markOf, pairOf, marksOf, stateIn}
 use Rattle.objects.specs.Header.{stateAt, sizedAt, headerAt, payloadOf}
@@ -82,5 +83,5 @@ scans =
     ∷ []
 
 pub rows : all (fresh ++ others ++ scans) ≡ true
-unfolding geometryOk admit _>>=_ ask test putting run readable writable erasable readAt write erase typeOf markOf pairOf marksOf stateIn stateAt sizedAt headerAt payloadOf infoAt totalOf nextOf listFrom listing headerBytes writeHeader padded marked blank kindOfType namedKind kindIn blockHeaderAt dataEmptyAt again planKnown planOf planAt labelling renewing formatBlock formatFrom formatStorage scanUnknown scanBlock calculateFreeableSpace
+unfolding geometryOk admit _>>=_ ask test putting run readable writable storable notErased erasable readAt write erase typeOf markOf pairOf marksOf stateIn stateAt sizedAt headerAt payloadOf infoAt totalOf nextOf listFrom listing headerBytes writeHeader padded marked blank kindOfType namedKind kindIn blockHeaderAt dataEmptyAt again planKnown planOf planAt labelling renewing formatBlock formatFrom formatStorage scanUnknown scanBlock calculateFreeableSpace
 rows = refl

@@ -12,7 +12,8 @@ use Rattle.medium.specs.declared.fuse.Fuse.{Fuse}
 use Rattle.medium.specs.declared.fuse.Fuse.the-variants.{Absent, Units}
 use Rattle.medium.specs.Geometry.{geometryOk, admit}
 use Rattle.medium.specs.Operation.{_>>=_, ask, test, putting, run, numberOf}
-use Rattle.medium.specs.Medium.{readable, writable, erasable, readAt, write, erase}
+use Rattle.medium.specs.Strict.{notErased}
+use Rattle.medium.specs.Medium.{readable, writable, storable, erasable, readAt, write, erase}
 use Rattle.medium.specs.Beside.{both, onImage}
 use Rattle.medium.specs.Bench.{blocks, all, same, ends}
 use Rattle.objects.specs.Types.{typeOf, markOf, pairOf, marksOf, stateIn}
@@ -178,5 +179,5 @@ overrun =
     long = dataBlock 0x44 (0x8E ∷ 0xF0 ∷ 57 ∷ [])
 
 pub rows : all (thirteen ++ impossible ++ last ++ raised ++ broken ++ cuts ++ rest ++ listedFirst ++ full ++ swallowed ++ overrun) ≡ true
-unfolding geometryOk admit _>>=_ ask test putting run readable writable erasable readAt write erase typeOf markOf pairOf marksOf stateIn stateAt sizedAt headerAt payloadSizeOf payloadOf marking setState staying updateState sizableOf setPayloadSize infoAt totalOf nextOf listFrom listing headerBytes writeHeader padded marked blank kindOfType namedKind kindIn blockHeaderAt dataEmptyAt again planKnown planOf planAt labelling format.renewing formatBlock kindOf infoOf scanUnknown scanBlock onImage recordAt storing allowing possibleFrom collectable repairBy repairing repaired visitOne deleting deleteInvalidObjectsInBlock wornOut formatting renewing erasing eraseInvalidFinishedBlock eraseFullFinishedBlock blockStep sweep pass collect
+unfolding geometryOk admit _>>=_ ask test putting run readable writable storable notErased erasable readAt write erase typeOf markOf pairOf marksOf stateIn stateAt sizedAt headerAt payloadSizeOf payloadOf marking setState staying updateState sizableOf setPayloadSize infoAt totalOf nextOf listFrom listing headerBytes writeHeader padded marked blank kindOfType namedKind kindIn blockHeaderAt dataEmptyAt again planKnown planOf planAt labelling format.renewing formatBlock kindOf infoOf scanUnknown scanBlock onImage recordAt storing allowing possibleFrom collectable repairBy repairing repaired visitOne deleting deleteInvalidObjectsInBlock wornOut formatting renewing erasing eraseInvalidFinishedBlock eraseFullFinishedBlock blockStep sweep pass collect
 rows = refl

@@ -10,11 +10,12 @@ use Rattle.medium.specs.declared.geometry.Geometry.{Geometry}
 use Rattle.medium.specs.declared.fuse.Fuse.the-variants.{Absent, Units}
 use Rattle.medium.specs.Geometry.{geometryOk, admit, fitOf}
 use Rattle.medium.specs.Operation.{Answer, done, refused, ask, putting, run}
-use Rattle.medium.specs.Medium.{readable, writable, erasable, alignedOf, readAt, lent, write, erase}
+use Rattle.medium.specs.Strict.{notErased}
+use Rattle.medium.specs.Medium.{readable, writable, storable, erasable, alignedOf, readAt, lent, write, erase}
 use Rattle.medium.specs.Bench.{four, filled, holding, all, same, row}
 
 abbrev sized : ℕ → Geometry
-sized n = record { granularity = Bit; s = 1; c = 1; size = n; count = 4 }
+sized n = record { granularity = Bit; s = 1; c = 1; strict = 0; size = n; count = 4 }
 
 abbrev plain : ℕ → List ℕ
 plain x = replicate 1024 x
@@ -70,5 +71,5 @@ table =
     ∷ []
 
 pub rows : all table ≡ true
-unfolding geometryOk admit fitOf ask putting run readable writable erasable alignedOf readAt write erase
+unfolding geometryOk admit fitOf ask putting run readable writable storable notErased erasable alignedOf readAt write erase
 rows = refl

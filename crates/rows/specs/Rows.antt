@@ -10,7 +10,8 @@ use Rattle.medium.specs.declared.granularity.Granularity.the-variants.{Bit, Wor
 use Rattle.medium.specs.declared.fuse.Fuse.the-variants.{Absent, Units}
 use Rattle.medium.specs.Geometry.{geometryOk, admit, fitOf}
 use Rattle.medium.specs.Operation.{Answer, done, refused, Op, _>>=_, _>>_, ask, test, putting, refuse, run, numberOf}
-use Rattle.medium.specs.Medium.{readable, writable, erasable, readAt, write, erase}
+use Rattle.medium.specs.Strict.{notErased}
+use Rattle.medium.specs.Medium.{readable, writable, storable, erasable, readAt, write, erase}
 use Rattle.medium.specs.Bench.{four, holding, all, same, row, quiet}
 use Rattle.objects.specs.declared.types.ObjectType.the-variants.{FileData}
 use Rattle.objects.specs.declared.state.ObjectDataState.the-variants.{Deleted}
@@ -218,5 +219,5 @@ table =
     ∷ []
 
 pub rows : all table ≡ true
-unfolding geometryOk admit fitOf _>>=_ ask test putting run readable writable readAt write typeOf markOf pairOf marksOf stateIn stateAt sizedAt headerAt payloadSizeOf payloadOf allocatableOf marking setState staying updateState sizableOf setPayloadSize infoAt totalOf readerAt remainingOf leftOf readSome nextOf listFrom listing soundOf allocate mayWrite putBytes writeSome mayFinish flush close finalize delete writeTo sourceAt chunk copying copyObject moveObject erasable erase headerBytes writeHeader padded marked header.blank kindOfType namedKind header.kindIn blockHeaderAt dataEmptyAt again planKnown planOf planAt labelling renewing formatBlock setBlockType
+unfolding geometryOk admit fitOf _>>=_ ask test putting run readable writable storable notErased readAt write typeOf markOf pairOf marksOf stateIn stateAt sizedAt headerAt payloadSizeOf payloadOf allocatableOf marking setState staying updateState sizableOf setPayloadSize infoAt totalOf readerAt remainingOf leftOf readSome nextOf listFrom listing soundOf allocate mayWrite putBytes writeSome mayFinish flush close finalize delete writeTo sourceAt chunk copying copyObject moveObject erasable erase headerBytes writeHeader padded marked header.blank kindOfType namedKind header.kindIn blockHeaderAt dataEmptyAt again planKnown planOf planAt labelling renewing formatBlock setBlockType
 rows = refl

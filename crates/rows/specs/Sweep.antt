@@ -11,7 +11,8 @@ use Rattle.medium.specs.declared.fuse.Fuse.{Fuse}
 use Rattle.medium.specs.declared.fuse.Fuse.the-variants.{Absent, Units}
 use Rattle.medium.specs.Geometry.{geometryOk, admit}
 use Rattle.medium.specs.Operation.{Answer, done, refused, _>>=_, ask, test, putting, run}
-use Rattle.medium.specs.Medium.{readable, writable, readAt, write}
+use Rattle.medium.specs.Strict.{notErased}
+use Rattle.medium.specs.Medium.{readable, writable, storable, readAt, write}
 use Rattle.medium.specs.Beside.{both, onImage}
 use Rattle.medium.specs.Bench.{blocks, holding, all, same, ends}
 use Rattle.objects.specs.declared.location.ObjectLocation.{ObjectLocation}
@@ -200,5 +201,5 @@ lent =
     ∷ []
 
 pub rows : all (firsts ++ apart ++ loose ++ cuts ++ danglings ++ listed ++ oneName ++ lent) ≡ true
-unfolding geometryOk admit _>>=_ ask test putting run readable writable readAt write onImage typeOf markOf pairOf marksOf stateIn stateAt sizedAt headerAt payloadSizeOf payloadOf marking setState updateState infoAt totalOf payloadReadable readPayload equal samePayload readerAt numberAt locationAt readMetadata listable nextLocation nextOf listFrom padded marked blank kindOfType namedKind kindIn blockHeaderAt openTour isOf openOf blocksTour tourFrom sameFrom isName isNamed lookup placesFrom locationsOf isWhole isListed isSound listings sweepable isTwin twins isReferred unreferred deleting deletingTwins deletingUnreferred sweep sweepWith
+unfolding geometryOk admit _>>=_ ask test putting run readable writable storable notErased readAt write onImage typeOf markOf pairOf marksOf stateIn stateAt sizedAt headerAt payloadSizeOf payloadOf marking setState updateState infoAt totalOf payloadReadable readPayload equal samePayload readerAt numberAt locationAt readMetadata listable nextLocation nextOf listFrom padded marked blank kindOfType namedKind kindIn blockHeaderAt openTour isOf openOf blocksTour tourFrom sameFrom isName isNamed lookup placesFrom locationsOf isWhole isListed isSound listings sweepable isTwin twins isReferred unreferred deleting deletingTwins deletingUnreferred sweep sweepWith
 rows = refl

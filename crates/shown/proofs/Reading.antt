@@ -11,7 +11,7 @@ use borrow.Author.Tests.{ltb-true, leb-true, eqb-true, eqb-false, le-leb, lt-ltb
 use Rattle.medium.specs.declared.granularity.Granularity.{Granularity}
 use Rattle.medium.specs.declared.granularity.Granularity.the-variants.{Bit, Word1, Word4}
 use Rattle.medium.specs.declared.geometry.Geometry.{Geometry}
-use Rattle.medium.specs.Granularity.{pick, widthOf, finishAt, deleteAt, finishMark, sizeAt, header}
+use Rattle.medium.specs.Granularity.{pick, widthOf, mostStrict, finishAt, deleteAt, finishMark, sizeAt, header}
 use Rattle.medium.specs.Geometry.{limitOf, checkOf, address}
 use Rattle.medium.specs.Operation.{Answer, done, refused, andThen}
 use Rattle.medium.specs.Medium.{part, readable, readAt}
@@ -100,6 +100,26 @@ unfolding marksOf markOf pairOf
 blank-marks Bit = refl
 blank-marks Word1 = refl
 blank-marks Word4 = refl
+
+-- the delete mark of a valid pair is FF
+pair-free : (f d : ℕ) → pairOf f d ≡ done Valid → d ≡ 255
+unfolding pairOf
+pair-free f d h = go (eqb f 255) (eqb f 0) (eqb d 255) (eqb d 0) refl h
+  where
+    go : (x y u v : Bool) → eqb d 255 ≡ u
+        → pick x (pick u (done Untrusted) (refused 2)) (pick y (pick u (done Valid) (pick v (done Deleted) (refused 2))) (refused 2)) ≡ done Valid → d ≡ 255
+    go x y true v q e = eqb-true _ _ q
+    go true y false v q e = let z : _≡_ {A = ℕ} 0 1 = cc in absurd (omega arith)
+    go false true false true q e = let z : _≡_ {A = ℕ} 0 1 = cc in absurd (omega arith)
+    go false true false false q e = let z : _≡_ {A = ℕ} 0 1 = cc in absurd (omega arith)
+    go false false false v q e = let z : _≡_ {A = ℕ} 0 1 = cc in absurd (omega arith)
+
+-- so of a finished object under either Word
+pub finished-free : (g : Granularity) (f d : ℕ) → 1 ≤ mostStrict g → marksOf g f d ≡ done Valid → d ≡ 255
+unfolding marksOf
+finished-free Bit f d h m = absurd (omega arith)
+finished-free Word1 f d h m = pair-free f d m
+finished-free Word4 f d h m = pair-free f d m
 
 -- the finish mark of a valid pair is 00, so the delete mark makes it a deleted pair
 pair-deleted : (f d : ℕ) → pairOf f d ≡ done Valid → pairOf f 0 ≡ done Deleted

@@ -143,6 +143,7 @@ module _ (g : Geometry) (img : List ℕ) (r : Ready g img) (h : ObjectHeader) (d
         fine = fine-now;
         metadata-end = ap (λ (t : Tour). t .end) metadata-same ∙ r .metadata-end;
         data-end = left-over .1 ∙ r .data-end;
+        plain = r .plain;
         sound =
             subst (All (λ x. isSound g x other ≡ true)) (sym metadata-is)
             (still-sound g img other (r .fine) (m .long) (metadataIn g img) held-all

@@ -1,11 +1,12 @@
 -- What can end a tour: only bytes that are no header, which are 2. So the ends of the Metadata tour and then of the Data tour are those of
 -- all blocks in order.
 use mathlib.Core.Path.{_≡_, refl, sym, ap, ap₂, _∙_}
-use mathlib.Core.Bool.{Bool, true, false}
+use mathlib.Core.Bool.{Bool, true, false, _&&_, not}
 use mathlib.Core.List.{List}
 use Prim.Native.Nat.{ℕ, zero, suc, _+_, _≤_, _<_}
 use native.Mathlib.Nat.{sub-zero}
 use native.Mathlib.Omega.{arith}
+use lib.Dec.{eqb}
 use lib.ListN.{length}
 use Rattle.medium.specs.declared.geometry.Geometry.{Geometry}
 use Rattle.medium.specs.Granularity.{pick, longestBlockHeader}
@@ -91,7 +92,7 @@ module _ (g : Geometry) (img : List ℕ) (c : checkOf g (length img) ≡ 0) wher
 
   -- what a sweep refuses, as it is found: by one walk, by the other, and then by the metadata
   pub sweepable-by : sweepable g img
-      ≡ andThen (tour g Metadata img .end) (λ _. andThen (tour g Data img .end) (λ _. pick (every (λ h. isSound g h img) (metadataIn g img)) (done tt) (refused 14)))
+      ≡ andThen (tour g Metadata img .end) (λ _. andThen (tour g Data img .end) (λ _. pick (not (eqb (g .strict) 1) && every (λ h. isSound g h img) (metadataIn g img)) (done tt) (refused 14)))
   unfolding sweepable tourFrom
   sweepable-by =
       gate-on _ (checkOf g (length img)) (checkOf g (length img)) refl c

@@ -15,7 +15,7 @@ use Rattle.medium.specs.declared.fuse.Stored.the-variants as stored
 use Rattle.medium.specs.Granularity.{widthOf, finishAt, deleteAt, sizeAt, header, blockHeader}
 use Rattle.medium.specs.Geometry.{checkOf, address}
 use Rattle.medium.specs.Units.{FlashUnit}
-use Rattle.medium.specs.Operation.{apply, done, run, End, endedBy}
+use Rattle.medium.specs.Operation.{flash, apply, done, Op, _>>=_, _>>_, give, test, run, End, endedBy}
 use Rattle.medium.specs.Medium.{write, unitsAt}
 use Rattle.objects.specs.declared.types.ObjectType.{ObjectType}
 use Rattle.objects.specs.declared.state.ObjectDataState.the-variants.{Valid, Deleted}
@@ -29,7 +29,7 @@ use Rattle.objects.specs.Listing.{Visit, listing}
 use Rattle.blocks.specs.declared.header.BlockType.{BlockType}
 use Rattle.storage.specs.Order.{isOf}
 use Rattle.sweep.specs.Laws.{markPlace}
-use Rattle.medium.proofs.Runs.{leb-is, run-done}
+use Rattle.medium.proofs.Runs.{leb-is, run-done, value-of, bound}
 use Rattle.medium.proofs.Bytes.{Off, length-apply}
 use Rattle.medium.proofs.Bytes as bytes
 use Rattle.medium.proofs.Programs.{pad-kept}
@@ -38,7 +38,8 @@ use Rattle.medium.proofs.Frame.{part-same}
 use Rattle.medium.proofs.Places.{Laid, laid, headed, even-add, align-even}
 use Rattle.medium.proofs.Checks.{Fine, within, fine-of-check}
 use Rattle.medium.proofs.Traced.{ran, tested, store-ran, power-cut}
-use Rattle.medium.proofs.Writes.{write-ran}
+use Rattle.medium.proofs.Writes.{write-ran, write-stored}
+use Rattle.medium.proofs.Left as left
 use Rattle.shown.proofs.Reading.{stateSeen, sizeSeen, Told, header-back, Shown, shown, seen-object, mark-deleted, headerOf, header-read}
 use Rattle.shown.proofs.Walk.{visit, spanAt, Walked, Reached, reached, info-back, span-least}
 
@@ -135,14 +136,26 @@ module _ (g : Geometry) (t : BlockType) (h : ObjectHeader) (img : List ℕ) (fin
 
   -- ---- the store
 
-  pub delete-ran : (m : List ℕ) → length m ≡ length img → updateState g h state.Deleted m ≡ ran (markUnits g h) (goneOf h (v .type))
+  pub delete-ran : (g .strict ≡ 1 → ⊥) → (m : List ℕ) → length m ≡ length img → updateState g h state.Deleted m ≡ ran (markUnits g h) (goneOf h (v .type))
   unfolding updateState setState marking
-  delete-ran m e =
+  delete-ran plain m e =
       let f : checkOf g (length m) ≡ 0 = ap (checkOf g) e ∙ fine in
       rw (v .state)
       (tested (λ i. checkOf g (length i)) (marking g h (v .type) Deleted) m (markUnits g h) (goneOf h (v .type)) f
       (store-ran (write g b (off + deleteAt (g .granularity)) (0 ∷ [])) m (markUnits g h) (goneOf h (v .type))
-      (write-ran g b (off + deleteAt (g .granularity)) (0 ∷ []) m f listed-block (even-add (g .granularity) off (deleteAt (g .granularity)) listed-even (l .delete-even)) (omega (arith, l, at-object .fits)))))
+      (write-ran g b (off + deleteAt (g .granularity)) (0 ∷ []) m f listed-block (even-add (g .granularity) off (deleteAt (g .granularity)) listed-even (l .delete-even)) (omega (arith, l, at-object .fits))
+      (λ on. absurd (plain on)))))
+
+  -- where it is done it stored its unit
+  delete-stored : (m : List ℕ) (x : ObjectHeader) → updateState g h state.Deleted m .answer ≡ done x → updateState g h state.Deleted m ≡ ran (markUnits g h) (goneOf h (v .type))
+  unfolding updateState setState marking
+  delete-stored m x e =
+      let stored : Op ObjectHeader = write g b (off + deleteAt (g .granularity)) (0 ∷ []) >> give (goneOf h (v .type)) in
+      let e1 : (test {W = flash} (λ i. checkOf g (length i)) >> stored) m .answer ≡ done x = rw (v .state) at e in
+      let t = left.tested (λ i. checkOf g (length i)) (λ _. stored) m x e1 in
+      let w = bound (write g b (off + deleteAt (g .granularity)) (0 ∷ [])) (λ _. give (goneOf h (v .type))) m x (rw t at e1) in
+      rw (v .state)
+      (t ∙ store-ran (write g b (off + deleteAt (g .granularity)) (0 ∷ [])) m (markUnits g h) (goneOf h (v .type)) (write-stored g b (off + deleteAt (g .granularity)) (0 ∷ []) m (w .value) (w .first)))
 
   pub marked-by : AreBytes img → Marked g h img (apply (markUnits g h) img)
   marked-by byte =
@@ -170,7 +183,7 @@ module _ (g : Geometry) (t : BlockType) (h : ObjectHeader) (img : List ℕ) (fin
       let q : record { answer = done after; fuse = left; state = m } ≡ run f (updateState g h state.Deleted) img = rw d at e in
       ap (λ (x : End ObjectHeader). x .state) q
       ∙ run-done f (updateState g h state.Deleted) img after (ap (λ (x : End ObjectHeader). x .answer) (sym q))
-      ∙ ap (λ (x : End ObjectHeader). x .state) (power-cut (updateState g h state.Deleted) (markUnits g h) (goneOf h (v .type)) img (delete-ran img refl))
+      ∙ ap (λ (x : End ObjectHeader). x .state) (power-cut (updateState g h state.Deleted) (markUnits g h) (goneOf h (v .type)) img (delete-stored img after (value-of f (updateState g h state.Deleted) img m a after left e d)))
 
   -- ---- how it reads then
 

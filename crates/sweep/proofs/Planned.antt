@@ -41,11 +41,11 @@ pub marking-long : (g : Geometry) (hs : List ObjectHeader) (img : List ℕ) → 
 marking-long g [] img = refl
 marking-long g (h ∷ hs) img = marking-long g hs (apply (markUnits g h) img) ∙ length-apply (markUnits g h) img
 
-pub deletable : (g : Geometry) (t : BlockType) (img : List ℕ) → checkOf g (length img) ≡ 0 → (h : ObjectHeader) → Listed g t h img → Deletable g (length img) h
-deletable g t img fine h l =
+pub deletable : (g : Geometry) (t : BlockType) (img : List ℕ) → checkOf g (length img) ≡ 0 → (g .strict ≡ 1 → ⊥) → (h : ObjectHeader) → Listed g t h img → Deletable g (length img) h
+deletable g t img fine plain h l =
     record {
       gone = goneOf h (l .type);
-      stores = delete-ran g t h img fine l;
+      stores = delete-ran g t h img fine l plain;
       one =
           length-units (widthOf (g .granularity)) (address g (h .location .block) (h .location .offset + deleteAt (g .granularity))) (0 ∷ [])
           ∙ one-unit (widthOf (g .granularity)) (unitsIn (widthOf (g .granularity)) 1) (laid (g .granularity) (g .s) 0 (fine-of-check g (length img) (checkOf g (length img)) refl fine .sound .s-most) .pos)
@@ -73,17 +73,17 @@ all-except P p (h ∷ hs) a = go (p h) (all-except P p hs (a .1))
     go true r = r
     go false r = (a .0, r)
 
-module _ (g : Geometry) (img : List ℕ) (fine : checkOf g (length img) ≡ 0) where
+module _ (g : Geometry) (img : List ℕ) (fine : checkOf g (length img) ≡ 0) (plain : g .strict ≡ 1 → ⊥) where
   twins-deletable : All (Deletable g (length img)) (twins g img)
   unfolding twins
   twins-deletable =
-      all-map (λ h. Listed g Metadata h img) (Deletable g (length img)) (deletable g Metadata img fine) (twinsIn (isTwin g img) [] (metadataIn g img))
+      all-map (λ h. Listed g Metadata h img) (Deletable g (length img)) (deletable g Metadata img fine plain) (twinsIn (isTwin g img) [] (metadataIn g img))
       (all-twins (λ h. Listed g Metadata h img) (isTwin g img) [] (metadataIn g img) (all-listed g Metadata img))
 
   unreferred-deletable : All (Deletable g (length img)) (unreferred g img)
   unfolding unreferred
   unreferred-deletable =
-      all-map (λ h. Listed g Data h img) (Deletable g (length img)) (deletable g Data img fine) (except (λ d. isReferred g img (d .location)) (dataIn g img))
+      all-map (λ h. Listed g Data h img) (Deletable g (length img)) (deletable g Data img fine plain) (except (λ d. isReferred g img (d .location)) (dataIn g img))
       (all-except (λ h. Listed g Data h img) (λ d. isReferred g img (d .location)) (dataIn g img) (all-listed g Data img))
 
 -- ---- the plan is what is stored
@@ -113,7 +113,7 @@ module _ (f : Fuse) (g : Geometry) (img t : List ℕ) (r : Ready g img) where
   first-pass : AllPass f (twins g img) g img first ⊎ SomePass f (twins g img) g img first
   first-pass =
       subst (λ (e : EndIn Both (Unit {0})). AllPass f (twins g img) g img e ⊎ SomePass f (twins g img) g img e) (sym (twins-start g f img t))
-      (deleting-run g 0 (twins g img) f 0 img t (twins-deletable g img (r .fine)))
+      (deleting-run g 0 (twins g img) f 0 img t (twins-deletable g img (r .fine) (r .plain)))
 
   whole-is : run f (sweep g) (both img t) ≡ nextBy (first .answer) (first .fuse) (first .state) (λ _ left s. run left (deletingUnreferred g) s)
   whole-is = sweep-on g f img t (ready-ok g img r) ∙ run-bind f (deletingTwins g) (λ _. deletingUnreferred g) (both img t)
@@ -128,7 +128,7 @@ module _ (f : Fuse) (g : Geometry) (img t : List ℕ) (r : Ready g img) where
       second p =
           ap (λ (e : EndIn Both (Unit {0})). e .state .image) (unreferred-start g (first .fuse) (first .state .image) (first .state .table))
           ∙ ap (λ (us : List ObjectHeader). run (first .fuse) (deleting g 1 0 us) (both (first .state .image) (first .state .table)) .state .image) same
-          ∙ ends (deleting-run g 1 (unreferred g img) (first .fuse) 0 (first .state .image) (first .state .table) (subst (λ (n : ℕ). All (Deletable g n) (unreferred g img)) (sym long) (unreferred-deletable g img (r .fine))))
+          ∙ ends (deleting-run g 1 (unreferred g img) (first .fuse) 0 (first .state .image) (first .state .table) (subst (λ (n : ℕ). All (Deletable g n) (unreferred g img)) (sym long) (unreferred-deletable g img (r .fine) (r .plain))))
         where
           long : length (first .state .image) ≡ length img
           long = ap (λ (m : List ℕ). length m) (p .1) ∙ marking-long g (twins g img) img

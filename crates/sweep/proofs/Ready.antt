@@ -1,12 +1,12 @@
 -- A store that can be swept: what its check tells, and what makes one.
 use mathlib.Core.Path.{_≡_, refl, sym, ap, ap₂, _∙_, subst}
-use mathlib.Core.Bool.{Bool, true, false, _||_, false≢true}
+use mathlib.Core.Bool.{Bool, true, false, _&&_, _||_, not, false≢true}
 use mathlib.Core.List.{List, [], _∷_, _++_}
 use Prim.Native.Nat.{ℕ}
 use native.Mathlib.Omega.{arith}
 use lib.ListN.{length}
 use lib.Dec.{eqb}
-use borrow.Author.Tests.{eqb-true}
+use borrow.Author.Tests.{eqb-true, eq-eqb, ne-eqb}
 use Rattle.medium.specs.declared.geometry.Geometry.{Geometry}
 use Rattle.medium.specs.Granularity.{pick}
 use Rattle.medium.specs.Geometry.{checkOf}
@@ -86,27 +86,35 @@ pub record Ready (g : Geometry) (img : List ℕ) : Type 0 where
   pub metadata-end : tour g Metadata img .end ≡ done tt
   pub data-end : tour g Data img .end ≡ done tt
   pub sound : All (λ h. isSound g h img ≡ true) (metadataIn g img)
+  pub plain : g .strict ≡ 1 → ⊥
 
 pub ready-of : (g : Geometry) (img : List ℕ) → AreBytes img → sweepable g img ≡ done tt → Ready g img
 ready-of g img b e =
     let fine = sweepable-fine g img e in
     let q = sym (sweepable-by g img fine) ∙ e in
-    let x = and-back (tour g Metadata img .end) (λ _. andThen (tour g Data img .end) (λ _. pick (every (λ h. isSound g h img) (metadataIn g img)) (done tt) (refused 14))) tt q in
-    let y = and-back (tour g Data img .end) (λ _. pick (every (λ h. isSound g h img) (metadataIn g img)) (done tt) (refused 14)) tt (x .second) in
+    let x = and-back (tour g Metadata img .end) (λ _. andThen (tour g Data img .end) (λ _. pick (not (eqb (g .strict) 1) && every (λ h. isSound g h img) (metadataIn g img)) (done tt) (refused 14))) tt q in
+    let y = and-back (tour g Data img .end) (λ _. pick (not (eqb (g .strict) 1) && every (λ h. isSound g h img) (metadataIn g img)) (done tt) (refused 14)) tt (x .second) in
     record {
       bytes = b;
       fine = fine;
       metadata-end = x .first;
       data-end = y .first;
-      sound = every-all (λ h. isSound g h img) (metadataIn g img) (chosen (every (λ h. isSound g h img) (metadataIn g img)) (y .second));
+      sound = every-all (λ h. isSound g h img) (metadataIn g img) (both-true (not (eqb (g .strict) 1)) (every (λ h. isSound g h img) (metadataIn g img)) (passed (y .second)) .1);
+      plain = λ on. marked on (both-true (not (eqb (g .strict) 1)) (every (λ h. isSound g h img) (metadataIn g img)) (passed (y .second)) .0);
     }
   where
     chosen : (c : Bool) → pick c (done tt) (refused 14) ≡ done (tt {0}) → c ≡ true
     chosen true p = refl
     chosen false p = let z : _≡_ {A = ℕ} 0 1 = cc in absurd (omega arith)
 
+    passed : pick (not (eqb (g .strict) 1) && every (λ h. isSound g h img) (metadataIn g img)) (done tt) (refused 14) ≡ done (tt {0}) → (not (eqb (g .strict) 1) && every (λ h. isSound g h img) (metadataIn g img)) ≡ true
+    passed = chosen (not (eqb (g .strict) 1) && every (λ h. isSound g h img) (metadataIn g img))
+
+    marked : g .strict ≡ 1 → not (eqb (g .strict) 1) ≡ true → ⊥
+    marked on q = false≢true (rw (eq-eqb _ _ on) at q)
+
 pub ready-ok : (g : Geometry) (img : List ℕ) → Ready g img → sweepable g img ≡ done tt
-ready-ok g img r = sweepable-by g img (r .fine) ∙ rw (r .metadata-end, r .data-end, all-every (λ h. isSound g h img) (metadataIn g img) (r .sound))
+ready-ok g img r = sweepable-by g img (r .fine) ∙ rw (r .metadata-end, r .data-end, ne-eqb _ _ (r .plain), all-every (λ h. isSound g h img) (metadataIn g img) (r .sound))
 
 -- ---- an object that is held: it and all that it refers to are kept
 

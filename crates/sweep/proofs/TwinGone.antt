@@ -126,6 +126,7 @@ module _ (g : Geometry) (img : List ℕ) (r : Ready g img) (h : ObjectHeader) (t
         fine = fine-now;
         metadata-end = left-over .1 ∙ r .metadata-end;
         data-end = ap (λ (t : Tour). t .end) data-same ∙ r .data-end;
+        plain = r .plain;
         sound = subst (All (λ x. isSound g x other ≡ true)) (sym (left-over .0)) (still-sound g img other (r .fine) (m .long) (f .front ++ f .back) held-all listed-still);
       }
     where

@@ -3,7 +3,7 @@
 -- blocks before any store." "Metadata objects are those listed in Metadata blocks, data and name objects those listed in Data blocks; other blocks
 -- are not looked at."
 use Prim.Native.Nat.{ℕ, zero, suc, _+_, _-_, _%_}
-use mathlib.Core.Bool.{Bool, _&&_}
+use mathlib.Core.Bool.{Bool, _&&_, not}
 use mathlib.Core.List.{List, [], _∷_}
 use lib.ListN.{length}
 use lib.Dec.{leb, eqb}
@@ -74,9 +74,9 @@ unfoldable pub listings : ℕ → Geometry → ℕ → List ℕ → Answer (Unit
 listings zero g b img = done tt
 listings (suc n) g b img = andThen (listedEnd g Metadata b img) (λ _. andThen (listedEnd g Data b img) (λ _. listings n g (b + 1) img))
 
--- 6, 7, what a listing gives, and then 14 over all metadata
+-- 6, 7, what a listing gives, and then 14 for the strict mark and over all metadata
 unfoldable pub sweepable : Geometry → List ℕ → Answer (Unit {0})
 sweepable g img =
     andThen (orRefuse (checkOf g (length img))) (λ _.
     andThen (listings (g .count) g 0 img) (λ _.
-    pick (every (λ h. isSound g h img) (metadataIn g img)) (done tt) (refused 14)))
+    pick (not (eqb (g .strict) 1) && every (λ h. isSound g h img) (metadataIn g img)) (done tt) (refused 14)))

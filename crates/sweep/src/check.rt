@@ -1,4 +1,4 @@
-// What is refused before any store: a listing, and metadata that points to nothing.
+// What is refused before any store: a listing, the strict mark, and metadata that points to nothing.
 use crate::notes;
 use blocks::header::BlockType;
 use medium::fuse::Answered;
@@ -192,6 +192,9 @@ pub(crate) fn check(g: Geometry, image: &[u8], words: &mut [u32]) -> Answered
     let Answered::Done = d else {
         return d;
     };
+    if g.strict == 1 {
+        return Answered::Refused(14);
+    }
     note_data(g, image, words);
     if are_sound(g, image, words) {
         return Answered::Done;

@@ -2,7 +2,7 @@
 use mathlib.Core.Path.{_≡_, refl, sym, ap, _∙_}
 use mathlib.Core.Bool.{Bool, true, false}
 use mathlib.Core.List.{List, [], _∷_, _++_, append-nil}
-use Prim.Native.Nat.{ℕ, zero, suc, _+_, _-_}
+use Prim.Native.Nat.{ℕ, zero, suc, _+_, _-_, _/_}
 use native.Mathlib.Omega.{arith}
 use lib.ListN.{length, take, drop}
 use lib.Dec.{eqb}
@@ -12,7 +12,7 @@ use Rattle.medium.specs.Granularity.{pick, sizeAt, finishAt, finishMark}
 use Rattle.medium.specs.Geometry.{checkOf, address}
 use Rattle.medium.specs.Units.{FlashUnit}
 use Rattle.medium.specs.Operation.{flash, apply, Answer, done, refused, orRefuse, Run, Op, follow, _>>=_, ask, give, test}
-use Rattle.medium.specs.Medium.{unitsAt, write}
+use Rattle.medium.specs.Medium.{part, unitsAt, write}
 use Rattle.objects.specs.declared.types.ObjectType.{ObjectType}
 use Rattle.objects.specs.declared.state.ObjectDataState.the-variants.{Untrusted, Valid}
 use Rattle.objects.specs.declared.state.CompositeObjectState.the-variants as comp
@@ -26,8 +26,9 @@ use Rattle.medium.proofs.Places.{width-is}
 use Rattle.medium.proofs.Split.{none-stored}
 use Rattle.medium.proofs.Writes.{write-stored}
 use Rattle.writer.specs.declared.writer.ObjectWriter.{ObjectWriter}
-use Rattle.writer.specs.Writer.{freshOf, withHeader, emptied, dataAt, mayWrite, allocate, wholeOf, pendingOf, heldBack, putBytes, writeSome, flush, mayFinish, close, finalize}
+use Rattle.writer.specs.Writer.{freshOf, withHeader, emptied, dataAt, mayWrite, allocate, wholeOf, pendingOf, heldBack, fillingOf, putBytes, writeSome, flush, mayFinish, close, finalize}
 use Rattle.writer.proofs.Laws.{width}
+use Rattle.writer.proofs.Steps.{whole-le, whole-even, filled, units-joined}
 
 -- ---- where the operation is done, it stored us and gave a
 
@@ -88,19 +89,38 @@ allocate-stores g at t img =
     typed : Op ObjectWriter
     typed = write g (at .block) (at .offset) (typeByte t ∷ []) >>= λ _. give (freshOf g at t)
 
+-- the two stores have the units of one
+pub put-units : (g : Geometry) (w : ObjectWriter) (bs : List ℕ)
+    → unitsAt g (w .object .location .block) (dataAt g w) (take (fillingOf w (width g) (wholeOf (width g) (length bs))) bs)
+    ++ unitsAt g (w .object .location .block) (dataAt g w + fillingOf w (width g) (wholeOf (width g) (length bs)))
+    (part (fillingOf w (width g) (wholeOf (width g) (length bs))) (wholeOf (width g) (length bs) - fillingOf w (width g) (wholeOf (width g) (length bs))) bs)
+    ≡ unitsAt g (w .object .location .block) (dataAt g w) (take (wholeOf (width g) (length bs)) bs)
+put-units g w bs =
+    let f = filled w (width g) (wholeOf (width g) (length bs)) (length bs / width g) (whole-even (width g) (length bs)) in
+    units-joined g (w .object .location .block) (dataAt g w) (f .0) (fillingOf w (width g) (wholeOf (width g) (length bs))) (wholeOf (width g) (length bs)) bs (f .1) (f .2) (whole-le (width g) (length bs))
+
 module _ (g : Geometry) (w : ObjectWriter) (img : List ℕ) where
   pub some-stores : (src : List ℕ)
       → Stores (writeSome g w src) img
       (unitsAt g (w .object .location .block) (dataAt g w) (take (wholeOf (width g) (length (pendingOf w src))) (pendingOf w src)))
       (heldBack w (wholeOf (width g) (length (pendingOf w src))) (drop (wholeOf (width g) (length (pendingOf w src))) (pendingOf w src)))
   unfolding writeSome putBytes
-  some-stores src =
-      test-then (λ i. mayWrite w g (length i) (length src)) (putBytes g w n (pendingOf w src)) img _ _
-      (λ _. then-give (write g (w .object .location .block) (dataAt g w) (take n (pendingOf w src))) (λ _. heldBack w n (drop n (pendingOf w src))) img _ tt
-      (write-stores g (w .object .location .block) (dataAt g w) (take n (pendingOf w src)) img))
+  some-stores src x e =
+      test-then (λ i. mayWrite w g (length i) (length src)) (putBytes g w m n bs) img _ _
+      (λ _. then (write g (w .object .location .block) (dataAt g w) (take m bs)) (λ _. write g (w .object .location .block) (dataAt g w + m) (part m (n - m) bs) >>= λ _. give (heldBack w n (drop n bs))) img _ _ tt _
+      (write-stores g (w .object .location .block) (dataAt g w) (take m bs) img)
+      (then-give (write g (w .object .location .block) (dataAt g w + m) (part m (n - m) bs)) (λ _. heldBack w n (drop n bs)) (apply (unitsAt g (w .object .location .block) (dataAt g w) (take m bs)) img) _ tt
+      (write-stores g (w .object .location .block) (dataAt g w + m) (part m (n - m) bs) (apply (unitsAt g (w .object .location .block) (dataAt g w) (take m bs)) img)))) x e
+      ∙ ap (λ (us : List FlashUnit). record { events = us; answer = done (heldBack w n (drop n bs)) }) (put-units g w bs)
     where
+      bs : List ℕ
+      bs = pendingOf w src
+
       n : ℕ
       n = wholeOf (width g) (length (pendingOf w src))
+
+      m : ℕ
+      m = fillingOf w (width g) (wholeOf (width g) (length (pendingOf w src)))
 
   pub flush-stores : Stores (flush g w) img (unitsAt g (w .object .location .block) (dataAt g w) (take (w .held) (w .tail))) (emptied w)
   unfolding flush ask

@@ -29,7 +29,7 @@ use Rattle.medium.proofs.Places.{width-is}
 use Rattle.medium.proofs.Split.{units-split}
 use Rattle.objects.proofs.Numbers.{length-bytes}
 use Rattle.writer.specs.declared.writer.ObjectWriter.{ObjectWriter}
-use Rattle.writer.specs.Writer.{freshOf, dataAt, noTail, tailOf, mayWrite, allocate, wholeOf, pendingOf, heldBack, putBytes, writeSome, finalize, writeTo}
+use Rattle.writer.specs.Writer.{freshOf, dataAt, noTail, tailOf, mayWrite, allocate, wholeOf, pendingOf, putPending, heldBack, writeSome, finalize, writeTo}
 use Rattle.writer.specs.Units.{objectUnits, unitCount, Written}
 use Rattle.writer.proofs.Laws.{width, HasRoom, has-room}
 use Rattle.writer.proofs.Steps.{whole-le, whole-even, rest-few}
@@ -132,7 +132,7 @@ object-fits g at t src img n e =
     let i = apply (allocate g at t img .events) img in
     let f : a .value ≡ freshOf g at t = gave (allocate g at t) img _ (freshOf g at t) (a .value) (allocate-stores g at t img) (a .first) in
     let b = bound (writeSome g (a .value) src) (λ v. finalize g v >>= λ u. give (totalOf (g .granularity) (g .s) (u .object))) i n (a .second) in
-    let c = bound (test (λ i. mayWrite (a .value) g (length i) (length src))) (λ _. putBytes g (a .value) (wholeOf (width g) (length (pendingOf (a .value) src))) (pendingOf (a .value) src)) i (b .value) (b .first) in
+    let c = bound (test (λ i. mayWrite (a .value) g (length i) (length src))) (λ _. putPending g (a .value) (pendingOf (a .value) src)) i (b .value) (b .first) in
     let z : mayWrite (a .value) g (length i) (length src) ≡ 0 = none-refused (mayWrite (a .value) g (length i) (length src)) (c .value) (c .first) in
     has-room (freshOf g at t) g (length img) (length src) 0 (sym (rw (f, length-apply (allocate g at t img .events) img) at z)) refl
 

@@ -1,6 +1,6 @@
 -- "The writer stores type, then payload, then size, then mark. Under Word(4) a tail of up to 3 bytes is held until the word fills or the
 -- object ends." "after 8 [it] is spent: each later write, finish or delete of it gives 4."
-use Prim.Native.Nat.{ℕ, zero, suc, _+_, _-_, _%_}
+use Prim.Native.Nat.{ℕ, zero, suc, _+_, _-_, _%_, min}
 use mathlib.Core.List.{List, [], _∷_, _++_}
 use mathlib.Core.Bool.{true, false, _&&_}
 use lib.ListN.{length, take, drop}
@@ -11,7 +11,7 @@ use Rattle.medium.specs.declared.fuse.Stored.the-variants as stored
 use Rattle.medium.specs.Granularity.{pick, widthOf, header}
 use Rattle.medium.specs.Geometry.{admit, fitOf}
 use Rattle.medium.specs.Operation.{Answer, done, refused, andThen, orRefuse, End, Op, _>>=_, _>>_, ask, give, test}
-use Rattle.medium.specs.Medium.{write}
+use Rattle.medium.specs.Medium.{part, write}
 use Rattle.objects.specs.declared.types.ObjectType.{ObjectType}
 use Rattle.objects.specs.declared.state.ObjectDataState.{ObjectDataState}
 use Rattle.objects.specs.declared.state.ObjectDataState.the-variants.{Untrusted, Valid, Deleted}
@@ -99,7 +99,8 @@ allocate g at t = do
   write g (at .block) (at .offset) (typeByte t ∷ [])
   give (freshOf g at t)
 
--- ---- then payload: the held bytes and the new ones, as far as they are whole words; the rest is held
+-- ---- then payload: the held bytes and the new ones, as far as they are whole words, in two stores as the Rust's steps are: the tail's word
+-- where it fills, then the others. The rest is held.
 
 -- 4 out of state, 9 past the block's end, 5 too many
 unfoldable pub mayWrite : ObjectWriter → Geometry → ℕ → ℕ → ℕ
@@ -125,15 +126,26 @@ tailOf bs = take 4 (bs ++ noTail)
 abbrev pub heldBack : ObjectWriter → ℕ → List ℕ → ObjectWriter
 heldBack w n bs = record { object = w .object; cursor = w .cursor + n; tail = tailOf bs; held = length bs; spent = w .spent }
 
-unfoldable pub putBytes : Geometry → ObjectWriter → ℕ → List ℕ → Op ObjectWriter
-putBytes g w n bs = do
-  write g (w .object .location .block) (dataAt g w) (take n bs)
+-- of n bytes in whole words of k those that fill the tail's word: none where nothing is held
+abbrev pub fillingOf : ObjectWriter → ℕ → ℕ → ℕ
+fillingOf w k n = pick (eqb (w .held) 0) 0 (min k n)
+
+-- the first m bytes, and then those up to the n-th
+unfoldable pub putBytes : Geometry → ObjectWriter → ℕ → ℕ → List ℕ → Op ObjectWriter
+putBytes g w m n bs = do
+  write g (w .object .location .block) (dataAt g w) (take m bs)
+  write g (w .object .location .block) (dataAt g w + m) (part m (n - m) bs)
   give (heldBack w n (drop n bs))
+
+abbrev pub putPending : Geometry → ObjectWriter → List ℕ → Op ObjectWriter
+putPending g w bs =
+    let n = wholeOf (widthOf (g .granularity)) (length bs) in
+    putBytes g w (fillingOf w (widthOf (g .granularity)) n) n bs
 
 unfoldable pub writeSome : Geometry → ObjectWriter → List ℕ → Op ObjectWriter
 writeSome g w src = do
   test (λ img. mayWrite w g (length img) (length src))
-  putBytes g w (wholeOf (widthOf (g .granularity)) (length (pendingOf w src))) (pendingOf w src)
+  putPending g w (pendingOf w src)
 
 -- ---- then size, then mark
 

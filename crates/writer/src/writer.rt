@@ -21,7 +21,7 @@ ghost use lib.Seq.{paste};
 ghost use Rattle.medium.specs.Granularity.{widestUnit, widthOf};
 ghost use Rattle.medium.specs.Operation.{run, endedBy, counted, unlessStored};
 ghost use Rattle.objects.specs.Types.{rankOf};
-ghost use Rattle.writer.specs.Writer.{freshOf, spentOf, keptOf, backOf, withHeader, dataAt, soundOf, spaceOf, payloadSize, totalSize, mayWrite, writeSome, pendingOf, heldBack, mayFinish, wroteOf, wroteEnd, writeTo};
+ghost use Rattle.writer.specs.Writer.{freshOf, spentOf, keptOf, backOf, withHeader, dataAt, soundOf, spaceOf, payloadSize, totalSize, mayWrite, writeSome, pendingOf, putPending, heldBack, mayFinish, wroteOf, wroteEnd, writeTo};
 ghost use Rattle.writer.specs.Steps.{spentBy, usableOf, storeWords, marked};
 
 pub struct ObjectWriter {
@@ -453,7 +453,7 @@ impl ObjectWriter {
     fn store(self, g: Geometry, image: &mut [u8], f: Fuse, src: &[u8]) -> Writing
         requires { ⌜ (self .cursor ≤ 65536) × (self .held < widthOf (g .granularity)) ⌝ }
         requires { ⌜ (dataAt g self + self .held + length (now src) ≤ g .size) × (g .size ≤ 65536) ⌝ }
-        ensures { λ r. ⌜ endedBy (r .answer) (r .writer) (now (image .exit)) ≡ run f (storeWords g self (pendingOf self (now (src .entry)))) (now (image .entry)) ⌝ }
+        ensures { λ r. ⌜ endedBy (r .answer) (r .writer) (now (image .exit)) ≡ run f (putPending g self (pendingOf self (now (src .entry)))) (now (image .entry)) ⌝ }
     {
         if self.held == 0 {
             return self.store_words(g, image, f, src);

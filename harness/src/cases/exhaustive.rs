@@ -6,6 +6,7 @@ mod collector;
 mod medium;
 mod objects;
 mod storage;
+mod strict;
 mod sweep;
 
 use crate::{case::Case, geometry::Geometry, op::Layer};
@@ -26,10 +27,15 @@ pub fn all(layer: Layer, visit: Visit) -> bool {
     }
 }
 
+/// All small cases of a layer under the strict mark.
+pub fn strict(layer: Layer, visit: Visit) -> bool {
+    strict::all(layer, visit)
+}
+
 const GRANULARITIES: [u8; 3] = [0, 1, 4];
 
 fn small(granularity: u8, s: u8, count: u32) -> Geometry {
-    Geometry { granularity, s, c: 1, size: 64, count }
+    Geometry { granularity, s, c: 1, strict: 0, size: 64, count }
 }
 
 /// The case without a fuse and with every fuse from 0 to one past its last unit.

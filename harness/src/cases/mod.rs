@@ -11,6 +11,7 @@ mod objects;
 mod spoil;
 pub mod storage;
 pub mod stores;
+mod strict;
 pub mod sweep;
 mod values;
 
@@ -23,10 +24,11 @@ use crate::{
     random::Random,
 };
 
-/// An endless row of random cases of one layer.
+/// An endless row of random cases of one layer, all of them without the strict mark or all of them with it.
 pub struct Source {
     random: Random,
     layer: Layer,
+    strict: bool,
     waiting: VecDeque<Case>,
 }
 
@@ -35,10 +37,28 @@ const MOST_UNITS: u32 = 96;
 
 impl Source {
     pub fn new(layer: Layer, seed: u64) -> Source {
-        Source { random: Random::new(seed ^ (layer as u64) << 56), layer, waiting: VecDeque::new() }
+        Source { random: Random::new(seed ^ (layer as u64) << 56), layer, strict: false, waiting: VecDeque::new() }
+    }
+
+    /// Under the mark; a row of its own.
+    pub fn strict(layer: Layer, seed: u64) -> Source {
+        Source { strict: true, ..Source::new(layer, seed ^ 1 << 48) }
     }
 
     fn make(&mut self) -> Case {
+        if !self.strict {
+            return self.plain();
+        }
+        loop {
+            let mut case = self.plain();
+            if case.geometry.granularity != 0 || self.random.one_in(12) {
+                strict::mark(&mut self.random, &mut case);
+                return case;
+            }
+        }
+    }
+
+    fn plain(&mut self) -> Case {
         let r = &mut self.random;
         match self.layer {
             Layer::Medium => medium::make(r),

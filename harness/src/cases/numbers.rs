@@ -16,7 +16,9 @@ pub fn geometry(r: &mut Random) -> Geometry {
         _ => r.pick(small),
     };
     let least = if size <= 256 { 1 } else { 2 };
-    Geometry { granularity: r.pick(&[0, 1, 4]), s: r.between(least, 3) as u8, c: r.between(1, 3) as u8, size, count }
+    let granularity = r.pick(&[0, 1, 4]);
+    let (s, c) = (r.between(least, 3) as u8, r.between(1, 3) as u8);
+    Geometry { granularity, s, c, strict: 0, size, count }
 }
 
 const EDGES: [u32; 36] = [

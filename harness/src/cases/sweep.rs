@@ -66,7 +66,9 @@ const SIZES: [(u32, u32); 14] = [
 pub fn geometry(r: &mut Random) -> Geometry {
     let (size, count) = r.pick(&SIZES);
     let least = if size <= 256 { 1 } else { 2 };
-    Geometry { granularity: r.pick(&[0, 1, 4]), s: r.between(least, 3) as u8, c: r.between(1, 3) as u8, size, count }
+    let granularity = r.pick(&[0, 1, 4]);
+    let (s, c) = (r.between(least, 3) as u8, r.between(1, 3) as u8);
+    Geometry { granularity, s, c, strict: 0, size, count }
 }
 
 /// A whole store, or one that is then made wrong.

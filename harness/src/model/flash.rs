@@ -1,7 +1,7 @@
-//! The paper's medium: reads, stores in units of rising order, erases, and the fuse.
+//! The paper's medium: reads, stores in units of rising order, erases, the fuse and the strict mark.
 
 use crate::{
-    answer::{IO, POWER_LOST},
+    answer::{IO, NOT_ERASED, POWER_LOST},
     geometry::Geometry,
     model::layout,
 };
@@ -46,7 +46,8 @@ impl Flash {
         Ok(bytes.iter().rev().fold(0, |n, &b| n << 8 | b as u32))
     }
 
-    /// "The data is padded with FF to whole words that must also fit. Each unit in rising order becomes old AND new."
+    /// "The data is padded with FF to whole words that must also fit. Each unit in rising order becomes old AND new." Under the
+    /// mark 10 stands between 3 and 8, with nothing stored.
     pub fn write(&mut self, block: u32, offset: u64, data: &[u8]) -> Answer<()> {
         let width = layout::width(self.geometry);
         let mut padded = data.to_vec();
@@ -55,6 +56,9 @@ impl Flash {
             return Err(IO);
         }
         let at = self.place(block, offset, padded.len() as u64)?;
+        if self.geometry.marked() && self.programs_again(at, &padded) {
+            return Err(NOT_ERASED);
+        }
         let units = padded.len() / width as usize;
         let powered = self.spend(units);
         for i in 0..powered * width as usize {
@@ -64,6 +68,16 @@ impl Flash {
             return Err(POWER_LOST);
         }
         Ok(())
+    }
+
+    /// Whether a unit that is not all FF is to get data that is not all FF.
+    fn programs_again(&self, at: usize, padded: &[u8]) -> bool {
+        let width = layout::width(self.geometry) as usize;
+        let erased = |unit: &[u8]| unit.iter().all(|&byte| byte == 0xFF);
+        (0..padded.len()).step_by(width).any(|i| {
+            let old = &self.image[at + i..at + i + width];
+            !erased(old) && !erased(&padded[i..i + width])
+        })
     }
 
     /// "Erase sets a block to FF and counts as one unit."

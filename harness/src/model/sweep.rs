@@ -16,9 +16,13 @@ use crate::{
 type Place = [u32; 2];
 
 impl Flash {
-    /// What has to go is known before the first mark is stored. Each number counts objects whose mark was.
+    /// What has to go is known before the first mark is stored. Each number counts objects whose mark was. Under the strict mark
+    /// nothing goes: 14 behind all listings.
     pub fn sweep(&mut self, twins: &mut u64, unreferred: &mut u64) -> Answer<()> {
         let (metadata, data) = self.in_order()?;
+        if self.geometry.marked() {
+            return Err(DANGLING);
+        }
         let stand: HashSet<Place> = data.iter().map(|header| [header.block, header.offset]).collect();
         let (mut known, mut referred) = (HashSet::new(), HashSet::new());
         let mut again = Vec::new();

@@ -17,7 +17,7 @@ pub const HASH: u32 = 0x0403_0201;
 
 /// A Data block, two Metadata blocks, and another Data block.
 pub fn empty(granularity: u8) -> Store {
-    let g = Geometry { granularity, s: 1, c: 1, size: 128, count: 4 };
+    let g = Geometry { granularity, s: 1, c: 1, strict: 0, size: 128, count: 4 };
     Store::of(g, &[DATA, METADATA, METADATA, DATA])
 }
 

@@ -10,10 +10,11 @@ pub const BAD_GEOMETRY: u8 = 6;
 pub const BAD_ROOM: u8 = 7;
 pub const POWER_LOST: u8 = 8;
 pub const RUST_PANIC: u8 = 9;
+pub const NOT_ERASED: u8 = 10;
 pub const NOT_FOUND: u8 = 13;
 pub const DANGLING: u8 = 14;
 
-pub const NAMES: [(u8, &str); 12] = [
+pub const NAMES: [(u8, &str); 13] = [
     (DONE, "done"),
     (NOT_FORMATTED, "NotFormatted"),
     (FS_CORRUPTED, "FsCorrupted"),
@@ -24,6 +25,7 @@ pub const NAMES: [(u8, &str); 12] = [
     (BAD_ROOM, "BadRoom"),
     (POWER_LOST, "PowerLost"),
     (RUST_PANIC, "RustPanic"),
+    (NOT_ERASED, "NotErased"),
     (NOT_FOUND, "NotFound"),
     (DANGLING, "Dangling"),
 ];

@@ -2,6 +2,7 @@
 //!
 //! `g=0/1/1/64x1 f=3 writer_write n=- a=142,1,255,0,8,0,0,0,0,0,0,0 b=414243 i=ba0144aa.00*4.ff*56`:
 //! granularity/s/c/block size x count, fuse, function, single numbers, array, table, batch or words, lent bytes, image.
+//! The mark stands behind the count: `g=4/1/1/64x1/strict`, and `/strict=N` for a number that is none.
 
 use crate::{
     geometry::Geometry,
@@ -41,12 +42,13 @@ impl Case {
     pub fn line(&self) -> String {
         let g = self.geometry;
         format!(
-            "g={}/{}/{}/{}x{} f={} {} n={} a={} b={} i={}",
+            "g={}/{}/{}/{}x{}{} f={} {} n={} a={} b={} i={}",
             g.granularity,
             g.s,
             g.c,
             g.size,
             g.count,
+            show_mark(g.strict),
             show_fuse(self.fuse),
             self.op.name(),
             show_numbers(&self.args),
@@ -131,7 +133,20 @@ fn number<T: std::str::FromStr>(text: &str) -> Result<T, String> {
     text.parse().map_err(|_| format!("{text:?} is not a number of the right range"))
 }
 
+fn show_mark(strict: u32) -> String {
+    match strict {
+        0 => String::new(),
+        1 => "/strict".to_string(),
+        _ => format!("/strict={strict}"),
+    }
+}
+
 fn parse_geometry(text: &str) -> Result<Geometry, String> {
+    let (text, strict) = match text.split_once("/strict") {
+        None => (text, 0),
+        Some((text, "")) => (text, 1),
+        Some((text, mark)) => (text, number(after(mark, "=")?)?),
+    };
     let parts: Vec<&str> = text.split(['/', 'x']).collect();
     let &[granularity, s, c, size, count] = parts.as_slice() else {
         return Err(format!("{text:?} is not granularity/s/c/size x count"));
@@ -140,6 +155,7 @@ fn parse_geometry(text: &str) -> Result<Geometry, String> {
         granularity: number(granularity)?,
         s: number(s)?,
         c: number(c)?,
+        strict,
         size: number(size)?,
         count: number(count)?,
     })

@@ -1,10 +1,13 @@
-//! The medium that the text is given: the paper's rules for reads, stores, erases and the fuse.
+//! The medium that the text is given: the paper's rules for reads, stores, erases, the fuse and the strict mark.
 //!
 //! Granularity, block size and count are constants; the widths s and c are numbers of the thread, set for each case.
 
 use std::cell::Cell;
 
-use crate::medium::{MediumError, StorageMedium, WriteGranularity};
+use crate::{
+    answer::{NOT_ERASED, POWER_LOST},
+    medium::{MediumError, StorageMedium, WriteGranularity},
+};
 
 thread_local! {
     static WIDTHS: Cell<(usize, usize)> = const { Cell::new((1, 1)) };
@@ -17,15 +20,21 @@ pub fn set_widths(s: u8, c: u8) {
 
 /// A medium that can be made from an image and told from.
 pub trait Chip: StorageMedium {
-    fn new(image: Vec<u8>, fuse: Option<u32>) -> Self;
-    /// Image, fuse, and whether power was lost.
-    fn end(self) -> (Vec<u8>, Option<u32>, bool);
+    fn new(image: Vec<u8>, fuse: Option<u32>, strict: bool) -> Self;
+    /// Image, fuse, and what the medium refused that the text has no name for: 8 or 10.
+    fn end(self) -> (Vec<u8>, Option<u32>, Option<u8>);
 }
 
 pub struct Flash<const GRANULARITY: u8, const SIZE: usize, const COUNT: usize> {
     image: Vec<u8>,
     fuse: Option<u32>,
-    lost: bool,
+    strict: bool,
+    refused: Option<u8>,
+}
+
+/// Whether it has a byte that is not FF; a word that is cut short is padded with FF.
+fn programmed(word: &[u8]) -> bool {
+    word.iter().any(|&byte| byte != 0xFF)
 }
 
 impl<const G: u8, const SIZE: usize, const COUNT: usize> Flash<G, SIZE, COUNT> {
@@ -38,7 +47,7 @@ impl<const G: u8, const SIZE: usize, const COUNT: usize> Flash<G, SIZE, COUNT> {
         match &mut self.fuse {
             None => true,
             Some(0) => {
-                self.lost = true;
+                self.refused = Some(POWER_LOST);
                 false
             }
             Some(left) => {
@@ -50,12 +59,12 @@ impl<const G: u8, const SIZE: usize, const COUNT: usize> Flash<G, SIZE, COUNT> {
 }
 
 impl<const G: u8, const SIZE: usize, const COUNT: usize> Chip for Flash<G, SIZE, COUNT> {
-    fn new(image: Vec<u8>, fuse: Option<u32>) -> Self {
-        Self { image, fuse, lost: false }
+    fn new(image: Vec<u8>, fuse: Option<u32>, strict: bool) -> Self {
+        Self { image, fuse, strict, refused: None }
     }
 
-    fn end(self) -> (Vec<u8>, Option<u32>, bool) {
-        (self.image, self.fuse, self.lost)
+    fn end(self) -> (Vec<u8>, Option<u32>, Option<u8>) {
+        (self.image, self.fuse, self.refused)
     }
 }
 
@@ -92,6 +101,11 @@ impl<const G: u8, const SIZE: usize, const COUNT: usize> StorageMedium for Flash
             return Err(MediumError::Write);
         }
         let mut at = block * SIZE + offset;
+        let mut words = self.image[at..].chunks(word).zip(data.chunks(word));
+        if self.strict && words.any(|(old, new)| programmed(old) && programmed(new)) {
+            self.refused = Some(NOT_ERASED);
+            return Err(MediumError::Write);
+        }
         for new in data.chunks(word) {
             if !self.unit() {
                 return Err(MediumError::Write);

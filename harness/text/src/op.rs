@@ -217,4 +217,18 @@ impl Op {
     pub fn stores(self) -> bool {
         self.signature().place == Place::Store
     }
+
+    /// Whether the function can meet 10 under the strict mark: all that store, but erases, formats and the passes that format,
+    /// which store on erased bytes only, and the sweeps, which store nothing then.
+    pub fn can_meet_programmed(self) -> bool {
+        let never = matches!(
+            self,
+            Op::Erase
+                | Op::FormatBlock
+                | Op::FormatStorage
+                | Op::EraseInvalidFinishedBlocks
+                | Op::EraseFullFinishedBlocks
+        );
+        self.stores() && !never && self.signature().layer != Layer::Sweep
+    }
 }

@@ -1,9 +1,7 @@
 //! One case on one instance of the text.
 
 use crate::{
-    answer::{
-        DONE, FS_CORRUPTED, INSUFFICIENT_SPACE, INVALID_OPERATION, IO, NOT_FORMATTED, NOT_FOUND, POWER_LOST, RUST_PANIC,
-    },
+    answer::{DONE, FS_CORRUPTED, INSUFFICIENT_SPACE, INVALID_OPERATION, IO, NOT_FORMATTED, NOT_FOUND, RUST_PANIC},
     call_batch, call_blocks, call_collector, call_objects, call_storage,
     case::Case,
     flash::{set_widths, Chip},
@@ -43,7 +41,7 @@ impl Shown {
 pub fn run_on<M: Chip>(case: &Case) -> Outcome {
     set_widths(case.geometry.s, case.geometry.c);
     let mut after = Outcome::before(case);
-    let mut medium = M::new(std::mem::take(&mut after.image), case.fuse);
+    let mut medium = M::new(std::mem::take(&mut after.image), case.fuse, case.geometry.marked());
     let mut shown = Shown {
         values: after.values.clone(),
         array: case.array.clone(),
@@ -59,14 +57,13 @@ pub fn run_on<M: Chip>(case: &Case) -> Outcome {
         Layer::Storage => call_storage::call(case, &mut medium, &mut shown).map_err(number),
         Layer::Sweep => unreachable!("the text has no sweep"),
     });
-    let (image, fuse, lost) = medium.end();
+    let (image, fuse, refused) = medium.end();
     after.image = image;
     after.fuse = fuse;
     after.bytes = shown.bytes;
     after.answer = match result {
         None => RUST_PANIC,
-        Some(Err(_)) if lost => POWER_LOST,
-        Some(Err(number)) => number,
+        Some(Err(number)) => refused.unwrap_or(number),
         Some(Ok(())) => DONE,
     };
     if after.done() || case.op.signature().layer == Layer::Collector {

@@ -16,6 +16,9 @@ use crate::options::{tell_sides, Options};
 /// Random cases a layer, unless another number is given.
 const CASES: u64 = 200_000;
 
+/// The same under the strict mark.
+const STRICT_CASES: u64 = 20_000;
+
 pub fn run(o: &Options) -> Result<(), String> {
     tell_sides(&o.layers);
     let mut tally = Tally::default();
@@ -24,6 +27,9 @@ pub fn run(o: &Options) -> Result<(), String> {
     }
     let report = format!("{}\n{}", tally.markdown(), tally.scope());
     println!("\n{report}");
+    if o.strict {
+        tally.strict(&o.layers)?;
+    }
     if let Some(file) = &o.table {
         fs::write(file, format!("{}\n{report}", title(o))).map_err(|e| format!("{file}: {e}"))?;
     }
@@ -34,18 +40,23 @@ pub fn run(o: &Options) -> Result<(), String> {
 fn title(o: &Options) -> String {
     let layer = if o.layers.len() == 1 { o.layers[0].name() } else { "all" };
     let only = if o.random_only { " --random-only" } else { "" };
-    let command =
-        format!("harness compare --layer {layer} --cases {} --seed {}{only}", o.cases.unwrap_or(CASES), o.seed);
+    let strict = if o.strict { " --strict" } else { "" };
+    let command = format!("harness compare --layer {layer} --cases {} --seed {}{strict}{only}", wanted(o), o.seed);
     format!("# Answers by function and number\n\nMade by `{command}`; all sides agree on every case.\n")
+}
+
+fn wanted(o: &Options) -> u64 {
+    o.cases.unwrap_or(if o.strict { STRICT_CASES } else { CASES })
 }
 
 fn run_layer(o: &Options, layer: Layer, tally: &mut Tally) -> Result<(), String> {
     let start = Instant::now();
     let before = tally.cases;
-    let wanted = o.cases.unwrap_or(CASES);
+    let wanted = wanted(o);
     let mut failed = None;
     if !o.random_only {
-        exhaustive::all(layer, &mut |case| {
+        let small = if o.strict { exhaustive::strict } else { exhaustive::all };
+        small(layer, &mut |case| {
             failed = step(o, &case, tally).err();
             progress(layer, "counted through", tally.cases - before, &start);
             failed.is_none()
@@ -53,7 +64,8 @@ fn run_layer(o: &Options, layer: Layer, tally: &mut Tally) -> Result<(), String>
     }
     failed.map_or(Ok(()), Err)?;
     let counted = tally.cases - before;
-    for case in Source::new(layer, o.seed).take(wanted as usize) {
+    let source = if o.strict { Source::strict } else { Source::new };
+    for case in source(layer, o.seed).take(wanted as usize) {
         step(o, &case, tally)?;
         progress(layer, "in all", tally.cases - before, &start);
     }

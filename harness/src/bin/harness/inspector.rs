@@ -28,7 +28,7 @@ fn compare(o: &Options, program: &Path, words: &[String], folder: &Path) -> Resu
     let mut r = Random::new(o.seed);
     let mut count = 0;
     for made in 0..wanted {
-        let g = geometry(&mut r);
+        let g = geometry(&mut r, o.strict);
         let image = images::image(&mut r, g).image;
         let lines = inspector::lines(g, &image);
         let seen = inspect(program, words, folder, g, &image)?;
@@ -51,12 +51,13 @@ fn inspect(program: &Path, words: &[String], folder: &Path, g: Geometry, image: 
     Ok(String::from_utf8_lossy(&ran.stdout).into_owned() + &String::from_utf8_lossy(&ran.stderr))
 }
 
-fn geometry(r: &mut Random) -> Geometry {
+fn geometry(r: &mut Random, strict: bool) -> Geometry {
+    let granularities: &[u8] = if strict { &[1, 4] } else { &[0, 1, 4] };
     loop {
         let (size, count) = r.pick(&SIZES);
         let least = if size <= 256 { 1 } else if size <= 65_535 { 2 } else { 3 };
         let (s, c) = (r.between(least.min(3), 3) as u8, r.between(1, 3) as u8);
-        let g = Geometry { granularity: r.pick(&[0, 1, 4]), s, c, size, count };
+        let g = Geometry { granularity: r.pick(granularities), s, c, strict: strict as u32, size, count };
         if g.good() && g.room() <= LARGEST && (size < 65_536 || r.one_in(8)) {
             return g;
         }

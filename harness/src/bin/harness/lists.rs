@@ -47,9 +47,11 @@ pub fn record(o: &Options) -> Result<(), String> {
     }
     let cases = o.cases.unwrap_or(1_000);
     let name = if o.layers.len() == LAYERS.len() { "all" } else { o.layers[0].name() };
-    let mut text = format!("# harness record --layer {name} --cases {cases} --seed {} --out FILE\n", o.seed);
+    let strict = if o.strict { " --strict" } else { "" };
+    let mut text = format!("# harness record --layer {name} --cases {cases} --seed {}{strict} --out FILE\n", o.seed);
+    let source = if o.strict { Source::strict } else { Source::new };
     for layer in layers {
-        for line in lines(layer, o.seed).take(cases as usize) {
+        for line in lines(source(layer, o.seed)).take(cases as usize) {
             text += &line;
             text.push('\n');
         }
@@ -58,8 +60,8 @@ pub fn record(o: &Options) -> Result<(), String> {
 }
 
 /// The text's answers to the random cases of a layer, where it can be asked and does not part from the paper.
-fn lines(layer: Layer, seed: u64) -> impl Iterator<Item = String> {
-    let told = Source::new(layer, seed).filter_map(|case| {
+fn lines(source: Source) -> impl Iterator<Item = String> {
+    let told = source.filter_map(|case| {
         let outcome = oracle::run(&case).ok()?;
         (!model::run(&case).rule).then(|| recorded::line(&case, &outcome))
     });

@@ -8,11 +8,12 @@ use harness::{
 pub const USAGE: &str = "\
 harness compare  [--layer medium|objects|blocks|collector|batch|storage|sweep|all] [--cases N] [--seed S] [--table FILE] [--random-only]
                  small cases counted through, then N random ones a layer; --random-only leaves the small ones out
+                 --strict: under the strict mark; fails also where a function that can meet 10 did not, or another did
                  --plant: with a fault planted in the library's outcomes, to see it found
-harness moves    [--cases N] [--seed S]        N moves, each at every fuse, with the promise about cuts checked
-harness inspector [--cases N] [--seed S] PROGRAM ..   the program's lines on N images against those read off the text
+harness moves    [--cases N] [--seed S] [--strict]   N moves, each at every fuse, with the promise about cuts checked
+harness inspector [--cases N] [--seed S] [--strict] PROGRAM ..   the program's lines on N images against those read off the text
 harness replay   'LINE' ..                     one case on all three sides
-harness record   [--layer ..] [--cases N] [--seed S] --out FILE     the text's answers as a list
+harness record   [--layer ..] [--cases N] [--seed S] [--strict] --out FILE     the text's answers as a list
 harness recorded FILE ..                       a recorded list on library and model
 harness speed    [--layer batch|storage|sweep|all] [--cases N]   a batch against its records, lookup against the Rust's, sweeps without
                  and with words; the median of N rounds";
@@ -26,6 +27,7 @@ pub struct Options {
     pub table: Option<String>,
     pub out: Option<String>,
     pub random_only: bool,
+    pub strict: bool,
     pub plant: bool,
     /// words that are no options: lines or files
     pub rest: Vec<String>,
@@ -39,6 +41,7 @@ pub fn parse(mut words: impl Iterator<Item = String>) -> Result<Options, String>
         table: None,
         out: None,
         random_only: false,
+        strict: false,
         plant: false,
         rest: vec![],
     };
@@ -51,6 +54,7 @@ pub fn parse(mut words: impl Iterator<Item = String>) -> Result<Options, String>
             "--table" => o.table = Some(value()?),
             "--out" => o.out = Some(value()?),
             "--random-only" => o.random_only = true,
+            "--strict" => o.strict = true,
             "--plant" => o.plant = true,
             _ if word.starts_with("--") => return Err(format!("no option {word}\n{USAGE}")),
             _ => o.rest.push(word),

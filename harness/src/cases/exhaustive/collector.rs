@@ -21,7 +21,7 @@ pub fn all(visit: Visit) -> bool {
 
 /// What an object is left as.
 #[derive(Clone, Copy)]
-enum Left {
+pub enum Left {
     Open,
     Sized,
     Finished,
@@ -31,13 +31,13 @@ enum Left {
 const LEFT: [Left; 4] = [Left::Open, Left::Sized, Left::Finished, Left::Deleted];
 
 /// No object, one, or two.
-fn rows() -> Vec<Vec<Left>> {
+pub fn rows() -> Vec<Vec<Left>> {
     let one = LEFT.iter().map(|&a| vec![a]);
     let two = LEFT.iter().flat_map(|&a| LEFT.iter().map(move |&b| vec![a, b]));
     std::iter::once(vec![]).chain(one).chain(two).collect()
 }
 
-fn built(g: Geometry, row: &[Left]) -> Flash {
+pub fn built(g: Geometry, row: &[Left]) -> Flash {
     let mut flash = Flash::erased(g);
     flash.block_header_write(0, DATA, 5).unwrap();
     let mut at = layout::block_header_len(g) as u32;

@@ -54,7 +54,7 @@ fn geometries(visit: Visit) -> bool {
     for granularity in [0, 1, 2, 3, 4, 5, 8, 255] {
         for (s, c) in (0..=4).flat_map(|s| (0..=4).map(move |c| (s, c))) {
             for (size, count) in SIZES.into_iter().flat_map(|size| COUNTS.map(|count| (size, count))) {
-                let g = Geometry { granularity, s, c, size, count };
+                let g = Geometry { granularity, s, c, strict: 0, size, count };
                 let room = size as u64 * count as u64;
                 let image = if room <= 1024 { vec![0xFF; room as usize] } else { Vec::new() };
                 if !visit(Case { image, ..Case::of(Op::Check, g) }) {

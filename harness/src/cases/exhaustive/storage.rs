@@ -20,7 +20,7 @@ use crate::{
 pub fn all(visit: Visit) -> bool {
     GRANULARITIES.into_iter().all(|granularity| {
         [(1, 1), (3, 2)].into_iter().all(|(s, c)| {
-            let g = Geometry { granularity, s, c, size: 128, count: 4 };
+            let g = Geometry { granularity, s, c, strict: 0, size: 128, count: 4 };
             paths::all(g, visit) && reads::all(g, visit) && names::all(g, visit) && bytes::all(g, visit)
         })
     }) && orders(visit)
@@ -66,7 +66,7 @@ fn on(flash: &Flash, case: Case) -> Case {
 /// What is refused first: a wrong geometry, a wrong room, and then what the image says.
 fn orders(visit: Visit) -> bool {
     GRANULARITIES.into_iter().all(|granularity| {
-        let g = Geometry { granularity, s: 1, c: 1, size: 128, count: 4 };
+        let g = Geometry { granularity, s: 1, c: 1, strict: 0, size: 128, count: 4 };
         let (flash, at) = (two_files(g).flash, [1, 0]);
         let calls = [lookup(&flash, 0, b""), size(&flash, at), read(&flash, at, 0, 0), names(&flash, [9, 9], 0)];
         let none = Case::of(Op::NamesNew, g);

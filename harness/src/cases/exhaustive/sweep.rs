@@ -32,7 +32,7 @@ pub fn all(visit: Visit) -> bool {
 fn every_store(visit: Visit) -> bool {
     GRANULARITIES.into_iter().all(|granularity| {
         [(1, 1), (3, 2)].into_iter().all(|(s, c)| {
-            let g = Geometry { granularity, s, c, size: 128, count: 4 };
+            let g = Geometry { granularity, s, c, strict: 0, size: 128, count: 4 };
             rows(g, visit)
                 && places(g, visit)
                 && sizes(g, visit)
@@ -219,7 +219,7 @@ fn refusals(g: Geometry, visit: Visit) -> bool {
 /// What is refused first: a wrong geometry, a wrong room, and then what the image says.
 fn orders(visit: Visit) -> bool {
     GRANULARITIES.into_iter().all(|granularity| {
-        let g = Geometry { granularity, s: 1, c: 1, size: 128, count: 4 };
+        let g = Geometry { granularity, s: 1, c: 1, strict: 0, size: 128, count: 4 };
         let Small { store, objects } = small(g);
         let mut dangling = store.flash.clone();
         poke(&mut dangling, objects[0], layout::header_len(g) as u32 + 4, 9);
@@ -243,7 +243,7 @@ fn orders(visit: Visit) -> bool {
 fn lengths(visit: Visit) -> bool {
     let mut r = Random::new(1);
     GRANULARITIES.into_iter().all(|granularity| {
-        let g = Geometry { granularity, s: 1, c: 1, size: 128, count: 4 };
+        let g = Geometry { granularity, s: 1, c: 1, strict: 0, size: 128, count: 4 };
         each_answer(g).into_iter().all(|case| {
             (0..=g.room() + 2).chain([2 * g.room()]).all(|many| {
                 let array = words(&mut r, many);

@@ -52,9 +52,16 @@ returns-7 : tie.Need-returns-7
 unfolding geometryOk fitOf
 returns-7 c = simp (lt-leb _ _ (c .if7 .taken), and-false)
 
+most-strict-requires : tie.Need-most-strict-requires
+most-strict-requires c κs = search needs
+
 returns-8 : tie.Need-returns-8
+unfolding geometryOk fitOf
+returns-8 c = simp (lt-leb _ _ (rw (c .before .before .most-strict .ensures) at (c .if8 .taken)), and-false)
+
+returns-9 : tie.Need-returns-9
 unfolding fitOf
-returns-8 c = simp (geometry-yes (c .before .before .before .before .before .before .before .before .before .args .g) (omega arith) (omega arith) (omega arith) (omega arith) (omega arith) (omega arith) (omega arith))
+returns-9 c = simp (geometry-yes (c .before .before .before .before .before .before .before .before .before .before .before .before .args .g) (omega arith) (omega arith) (omega arith) (omega arith) (omega arith) (omega arith) (omega arith) (rw (c .before .before .most-strict .ensures) at (c .if8 .left)))
 
 pub fit-spec : {M : Type 1} → statement M
 fit-spec =
@@ -72,4 +79,6 @@ fit-spec =
     cast-total-2
     mul-total
     returns-7
-    returns-8)
+    most-strict-requires
+    returns-8
+    returns-9)

@@ -46,12 +46,18 @@ cast-t15 c = omega (arith, fields-are (c .before .before .before .before .before
 element-copy-out-t18 : tie.Need-element-copy-out-t18
 element-copy-out-t18 c = search needs
 
-element-copy-out-t21 : tie.Need-element-copy-out-t21
-element-copy-out-t21 c = search needs
+cast-t19 : tie.Need-cast-t19
+cast-t19 c = omega (arith, fields-are (c .before .before .before .before .before .before .before .before .before .before .args .n .now) (sym (c .before .before .before .before .before .before .before .before .before .fields-hold .ensures) ∙ c .before .before .before .before .before .before .before .before .if1 .taken))
+
+element-copy-out-t22 : tie.Need-element-copy-out-t22
+element-copy-out-t22 c = search needs
+
+element-copy-out-t25 : tie.Need-element-copy-out-t25
+element-copy-out-t25 c = search needs
 
 returns-2 : tie.Need-returns-2
 unfolding geometryOf
-returns-2 c = rw (← c .before .before .before .before .before .before .before .before .before .before .fields-hold .ensures, c .before .before .before .before .before .before .before .before .before .if1 .taken, ← c .before .before .before .before .before .before .before .of-byte .ensures, c .before .before .before .before .before .told .given .1)
+returns-2 c = rw (← c .before .before .before .before .before .before .before .before .before .before .before .fields-hold .ensures, c .before .before .before .before .before .before .before .before .before .before .if1 .taken, ← c .before .before .before .before .before .before .before .before .of-byte .ensures, c .before .before .before .before .before .before .told .given .1)
 
 returns-3 : tie.Need-returns-3
 unfolding geometryOf
@@ -74,6 +80,8 @@ of-numbers-spec =
     element-copy-out-t14
     cast-t15
     element-copy-out-t18
-    element-copy-out-t21
+    cast-t19
+    element-copy-out-t22
+    element-copy-out-t25
     returns-2
     returns-3)

@@ -14,7 +14,7 @@ pub fn rows(rounds: u64) -> Result<(), String> {
     println!("|---:|---|---:|---:|---:|---:|---:|");
     for size in [65_536, 4_096] {
         for granularity in [0, 1, 4] {
-            let g = Geometry { granularity, s: 2, c: 1, size, count: 1 };
+            let g = Geometry { granularity, s: 2, c: 1, strict: 0, size, count: 1 };
             for (count, len) in [(12, 0), (12, 24), (12, 200), (64, 0), (64, 24), (64, 200)] {
                 if let Some(work) = Work::new(g, count, len) {
                     println!("{}", work.row(rounds)?);

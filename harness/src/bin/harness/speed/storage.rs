@@ -19,7 +19,7 @@ pub fn rows(rounds: u64) -> Result<(), String> {
     println!("|---:|---|---:|---|---:|---:|---:|");
     for (size, count, s, c) in [(256, 4, 2, 1), (4_096, 16, 2, 1), (4_096, 256, 2, 2), (65_536, 256, 3, 2)] {
         for granularity in [0, 4] {
-            City::new(Geometry { granularity, s, c, size, count }).lookups(rounds)?;
+            City::new(Geometry { granularity, s, c, strict: 0, size, count }).lookups(rounds)?;
         }
     }
     println!("\n| file | data objects | position | granularity | stumpchoir_file_read, ns | ns a byte |");
@@ -116,7 +116,7 @@ fn name(i: u32) -> Vec<u8> {
 
 /// One file of so many bytes in objects of one length, read from a position to its end.
 fn read(number: u8, len: usize, objects: usize, position: usize, rounds: u64) -> Result<(), String> {
-    let g = Geometry { granularity: number, s: 2, c: 1, size: 65_536, count: 2 };
+    let g = Geometry { granularity: number, s: 2, c: 1, strict: 0, size: 65_536, count: 2 };
     let mut store = Store::of(g, &[METADATA, DATA]);
     let bytes: Vec<u8> = (0..len).map(|i| i as u8).collect();
     let name = store.put(1, TYPES[2], b"n").ok_or("room for a name")?;

@@ -24,7 +24,7 @@ pub fn rows(rounds: u64) -> Result<(), String> {
     let (mut parts, mut known) = (Vec::new(), Vec::new());
     for (size, count, s, c) in STORES {
         for granularity in [0, 4] {
-            let g = Geometry { granularity, s, c, size, count };
+            let g = Geometry { granularity, s, c, strict: 0, size, count };
             for again in [Again::None, Again::Ten, Again::All] {
                 let town = Town::new(g, again);
                 let times = town.row(rounds, &mut known)?;

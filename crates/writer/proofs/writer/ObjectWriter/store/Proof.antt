@@ -1,5 +1,5 @@
 use mathlib.Core.Path.{_≡_, sym, _∙_}
-use Prim.Native.Nat.{_≤_, _+_, _-_}
+use Prim.Native.Nat.{_≤_, _<_, _+_, _-_}
 use native.Mathlib.Omega.{arith}
 use lib.ListN.{length}
 use lib.Seq.{length-take-le}
@@ -7,7 +7,8 @@ use Rattle.medium.specs.Granularity.{widthOf}
 use Rattle.medium.proofs.Places.{width-is}
 use Rattle.medium.proofs.Runs.{on, stop}
 use Rattle.writer.proofs.Laws.{rest-all}
-use Rattle.writer.proofs.Steps.{pending-none, pending-join}
+use Rattle.writer.specs.Writer.{pendingOf}
+use Rattle.writer.proofs.Steps.{pending-none, pending-length, pending-one, fills-none, fills-not, pending-join}
 use borrow.Author.Needs.{needs}
 use Rattle.writer.proofs.writer.ObjectWriter.store.Statement.{statement}
 use Rattle.writer.proofs.writer.ObjectWriter.store.Tie as tie
@@ -25,7 +26,7 @@ same-length : tie.Need-same-length
 same-length c = search needs
 
 returns : tie.Need-returns
-returns c = rw (pending-none (c .before .before .before .before .before .before .before .before .args .self) (c .before .before .before .before .before .before .before .before .args .src .now) (c .before .before .before .before .if1 .taken)) (c .before .before .store-words .ensures .0)
+returns c = rw (pending-one _ _ _ _ _ (fills-none (c .before .before .before .before .before .before .before .before .args .self) _ _ (c .before .before .before .before .if1 .taken)), pending-none (c .before .before .before .before .before .before .before .before .args .self) (c .before .before .before .before .before .before .before .before .args .src .now) (c .before .before .before .before .if1 .taken)) (c .before .before .store-words .ensures .0)
 
 width-requires : tie.Need-width-requires
 width-requires c κs = search needs
@@ -40,7 +41,10 @@ same-length-2 : tie.Need-same-length-2
 same-length-2 c = search needs
 
 returns-2 : tie.Need-returns-2
-returns-2 c = search needs
+returns-2 c =
+    let w = width-is (c .before .before .before .before .before .before .before .before .before .before .before .args .g .granularity) in
+    let l : length (pendingOf (c .before .before .before .before .before .before .before .before .before .before .before .args .self) (c .before .before .before .before .before .before .before .before .before .before .before .args .src .now)) < widthOf (c .before .before .before .before .before .before .before .before .before .before .before .args .g .granularity) = rw (pending-length (c .before .before .before .before .before .before .before .before .before .before .before .args .self) (c .before .before .before .before .before .before .before .before .before .before .before .args .src .now) (fits (c .before .before .before .before .before .before .before .before .before .before .before))) (omega (arith, c .before .before .before .before .before .before .before .before .before .before .before .pre, c .before .before .before .before .if2 .taken, c .before .before .before .before .before .before .width .ensures)) in
+    rw (pending-one _ _ _ _ _ (fills-not (c .before .before .before .before .before .before .before .before .before .before .before .args .self) _ _ (w .0) l)) (c .before .before .top-up .ensures .0)
 
 slice-aggregate-top-up : tie.Need-slice-aggregate-top-up
 slice-aggregate-top-up c = sym (length-take-le _ _ (c .before .before .if2 .left))
@@ -60,7 +64,7 @@ same-length-3 c = search needs
 returns-3 : tie.Need-returns-3
 returns-3 c =
     let k : c .before .before .before .before .before .before .before .before .before .before .before .before .before .before .args .self .held + (c .before .before .before .before .before .before .before .before .before .width .result - c .before .before .before .before .before .before .before .before .before .before .before .before .before .before .args .self .held) ≡ widthOf (c .before .before .before .before .before .before .before .before .before .before .before .before .before .before .args .g .granularity) = omega (arith, c .before .before .before .before .before .before .before .before .before .before .before .before .before .before .pre, c .before .before .before .before .before .before .before .before .before .width .ensures) in
-    rw (c .enum-told .given .1) (sym (pending-join _ _ _ _ _ _ (fits (c .before .before .before .before .before .before .before .before .before .before .before .before .before .before)) k (c .before .before .before .before .before .before .before .if2 .left) (c .before .before .before .before .before .before .before .before .before .before .before .before .before .before .pre .1 .0) ∙ stop _ _ _ _ _ _ _ _ (c .before .before .before .before .top-up2 .ensures .0) (c .enum-told .given .1)))
+    rw (c .enum-told .given .1) (sym (pending-join _ _ _ _ _ _ (fits (c .before .before .before .before .before .before .before .before .before .before .before .before .before .before)) (c .before .before .before .before .before .before .before .before .before .before .if1 .left) k (c .before .before .before .before .before .before .before .if2 .left) ∙ stop _ _ _ _ _ _ _ _ (c .before .before .before .before .top-up2 .ensures .0) (c .enum-told .given .1)))
 
 sub-store-words : tie.Need-sub-store-words
 sub-store-words c = search needs
@@ -80,7 +84,7 @@ same-length-4 c = search needs
 returns-4 : tie.Need-returns-4
 returns-4 c =
     let k : c .before .before .before .before .before .before .before .before .before .before .before .before .before .before .before .before .before .before .before .before .before .args .self .held + (c .before .before .before .before .before .before .before .before .before .before .before .before .before .before .before .before .width .result - c .before .before .before .before .before .before .before .before .before .before .before .before .before .before .before .before .before .before .before .before .before .args .self .held) ≡ widthOf (c .before .before .before .before .before .before .before .before .before .before .before .before .before .before .before .before .before .before .before .before .before .args .g .granularity) = omega (arith, c .before .before .before .before .before .before .before .before .before .before .before .before .before .before .before .before .before .before .before .before .before .pre, c .before .before .before .before .before .before .before .before .before .before .before .before .before .before .before .before .width .ensures) in
-    (rw (rest-all _ _) at (c .before .before .store-words2 .ensures .0)) ∙ sym (pending-join _ _ _ _ _ _ (fits (c .before .before .before .before .before .before .before .before .before .before .before .before .before .before .before .before .before .before .before .before .before)) k (c .before .before .before .before .before .before .before .before .before .before .before .before .before .before .if2 .left) (c .before .before .before .before .before .before .before .before .before .before .before .before .before .before .before .before .before .before .before .before .before .pre .1 .0) ∙ on _ _ _ _ _ _ _ _ (c .before .before .before .before .before .before .before .before .before .before .before .top-up2 .ensures .0) (c .before .before .before .before .before .before .before .a .given .1))
+    (rw (rest-all _ _) at (c .before .before .store-words2 .ensures .0)) ∙ sym (pending-join _ _ _ _ _ _ (fits (c .before .before .before .before .before .before .before .before .before .before .before .before .before .before .before .before .before .before .before .before .before)) (c .before .before .before .before .before .before .before .before .before .before .before .before .before .before .before .before .before .if1 .left) k (c .before .before .before .before .before .before .before .before .before .before .before .before .before .before .if2 .left) ∙ on _ _ _ _ _ _ _ _ (c .before .before .before .before .before .before .before .before .before .before .before .top-up2 .ensures .0) (c .before .before .before .before .before .before .before .a .given .1))
 
 pub store-spec : {M : Type 1} → statement M
 store-spec =

@@ -6,7 +6,7 @@ use lib.Seq.{length-take-le}
 use Rattle.medium.specs.Granularity.{widthOf}
 use Rattle.medium.proofs.Places.{width-is}
 use Rattle.medium.proofs.Runs.{on, stop, run-ask}
-use Rattle.writer.specs.Writer.{putBytes}
+use Rattle.writer.specs.Steps.{storeWords}
 use Rattle.writer.proofs.Laws.{rest-all}
 use Rattle.writer.proofs.Steps.{rest-few}
 use borrow.Author.Needs.{needs}
@@ -41,7 +41,7 @@ same-length : tie.Need-same-length
 same-length c = search needs
 
 returns : tie.Need-returns
-unfolding putBytes
+unfolding storeWords
 returns c = (rw (c .enum-told2 .given .1) (sym (stop _ _ _ _ _ _ tt _ (rw (c .before .before .before .before .before .before .data-at .ensures .0, c .before .before .before .before .before .before .before .before .width .ensures) at (c .before .before .before .before .write .ensures)) (c .enum-told2 .given .1))), omega arith)
 
 sub-held-back : tie.Need-sub-held-back
@@ -60,7 +60,7 @@ same-length-2 : tie.Need-same-length-2
 same-length-2 c = search needs
 
 returns-2 : tie.Need-returns-2
-unfolding putBytes
+unfolding storeWords
 returns-2 c = (rw (c .before .before .enum-told .given .1, c .held-back .ensures, rest-all _ _, c .before .before .before .before .before .before .before .before .before .before .width .ensures) (sym (on _ _ _ _ _ _ tt _ (rw (c .before .before .before .before .before .before .before .before .data-at .ensures .0, c .before .before .before .before .before .before .before .before .before .before .width .ensures) at (c .before .before .before .before .before .before .write .ensures)) (c .before .before .enum-told .given .1) ∙ run-ask _ _ _)), rw (c .held-back .ensures) (omega arith))
 
 pub store-words-spec : {M : Type 1} → statement M

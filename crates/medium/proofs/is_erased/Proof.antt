@@ -2,10 +2,10 @@ use mathlib.Core.Path.{_≡_, refl, sym, _∙_}
 use Prim.Native.Nat.{_≤_, _-_}
 use native.Mathlib.Omega.{arith}
 use lib.ListN.{length, drop}
-use Rattle.blocks.specs.Format.{allFF}
-use Rattle.blocks.proofs.Formats.{erased-more, erased-not, erased-end}
-use Rattle.blocks.proofs.format.is_erased.Statement.{statement}
-use Rattle.blocks.proofs.format.is_erased.Tie as tie
+use Rattle.medium.specs.Strict.{allFF}
+use Rattle.medium.proofs.Strict.{erased-more, erased-not, erased-end}
+use Rattle.medium.proofs.is_erased.Statement.{statement}
+use Rattle.medium.proofs.is_erased.Tie as tie
 
 abbrev Inv-loop : tie.InvT-loop
 Inv-loop part i₀ i = (i ≤ length part) × (allFF part ≡ allFF (drop i part))
