@@ -1,0 +1,4 @@
+pub mod Theorems
+pub mod Never
+pub mod Moves
+pub mod Life
