@@ -1,10 +1,10 @@
 -- What the strict mark means for a move.
-use mathlib.Core.Path.{_≡_, refl, sym, ap, subst, _∙_}
-use mathlib.Core.Bool.{Bool, true, false, _&&_, _||_, not}
+use mathlib.Core.Path.{_≡_, refl, sym, ap, _∙_}
+use mathlib.Core.Bool.{true, _&&_, not}
 use mathlib.Core.List.{List, [], _∷_}
 use Prim.Native.Nat.{ℕ, zero, suc, _+_, _-_, _*_, _%_, _≤_, _<_}
 use native.Mathlib.Omega.{arith}
-use lib.ListN.{length, getD, take, drop, replicate}
+use lib.ListN.{length, getD, take, replicate}
 use lib.Seq.{drop-cons}
 use lib.Dec.{leb, ltb, eqb}
 use borrow.Author.Tests.{eq-eqb, ne-eqb, le-leb, lt-ltb}
@@ -12,14 +12,14 @@ use Rattle.medium.specs.declared.granularity.Granularity.{Granularity}
 use Rattle.medium.specs.declared.geometry.Geometry.{Geometry}
 use Rattle.medium.specs.declared.fuse.Fuse.{Fuse}
 use Rattle.medium.specs.Granularity.{pick, widthOf, unitsIn, alignOf, mostStrict, finishAt, deleteAt}
-use Rattle.medium.specs.Geometry.{geometryOk, checkOf}
+use Rattle.medium.specs.Geometry.{checkOf}
 use Rattle.medium.specs.Units.{FlashUnit, programmed, padded, words, unitsOf}
 use Rattle.medium.specs.Operation.{flash, apply, done, refused, End, next, run, _>>=_, _>>_, ask, give}
 use Rattle.medium.specs.Strict.{again, anyAgain}
 use Rattle.medium.specs.Medium.{unitsAt, writable, write}
 use Rattle.medium.proofs.Runs.{run-bind, ask-on}
 use Rattle.medium.proofs.Bytes.{length-apply}
-use Rattle.medium.proofs.Checks.{sound-is, admit-pass, within, fine-of-check}
+use Rattle.medium.proofs.Checks.{sound-is, admit-pass}
 use Rattle.medium.proofs.Places.{Laid, laid}
 use Rattle.medium.proofs.Strict.{units-turn}
 use Rattle.objects.specs.declared.types.ObjectType.{ObjectType}
@@ -29,22 +29,22 @@ use Rattle.objects.specs.declared.state.CompositeObjectState.the-variants.{Allo
 use Rattle.objects.specs.declared.location.ObjectLocation.{ObjectLocation}
 use Rattle.objects.specs.declared.header.ObjectHeader.{ObjectHeader}
 use Rattle.objects.specs.Types.{typeByte}
-use Rattle.objects.specs.Header.{headerAt, stateAt, allocatableOf, setState}
+use Rattle.objects.specs.Header.{stateAt, allocatableOf, setState}
 use Rattle.objects.specs.Payload.{payloadAt}
 use Rattle.writer.specs.declared.writer.ObjectWriter.{ObjectWriter}
 use Rattle.writer.specs.Writer.{freshOf, allocate, finalize}
 use Rattle.moving.specs.Moving.{sourceAt, turnsOf, copying, copyObject, moveObject}
-use Rattle.shown.proofs.Reading.{stateSeen, shown, state-read, header-back, finished-free}
-use Rattle.fresh.specs.Units.{addressOf, span, before}
+use Rattle.shown.proofs.Reading.{shown, state-read, header-back, finished-free}
+use Rattle.fresh.specs.Units.{addressOf, before}
 use Rattle.fresh.proofs.Written.{begun}
 use Rattle.fresh.proofs.Again.{over-begun}
-use Rattle.powercut.specs.Demand.{payloadIn, Movable, unitsTo}
+use Rattle.powercut.specs.Demand.{payloadIn}
 use Rattle.powercut.specs.Again.{leftBy}
 use Rattle.powercut.proofs.Crash.{original-before}
 use Rattle.powercut.proofs.Ran.{Ready, source-of}
 use Rattle.powercut.proofs.Survive.{cut-before, units-are, original-whole, ready}
 use Rattle.powercut.proofs.Again.{left-is}
-use Rattle.strict.specs.Laws.{Refuses, TenExactly}
+use Rattle.strict.specs.Laws.{TenExactly}
 use Rattle.strict.specs.Moves.{FreeByBytes, SameMoveRefused}
 use Rattle.strict.proofs.Theorems.{ten-exactly}
 

@@ -1,8 +1,8 @@
 -- The laws of the strict mark, from those of each layer.
 use mathlib.Core.Path.{_≡_, refl, sym, ap, _∙_}
-use mathlib.Core.Bool.{Bool, true, false, _&&_, and-false, false≢true}
+use mathlib.Core.Bool.{Bool, true, false, and-false, false≢true}
 use mathlib.Core.List.{List, [], _∷_}
-use Prim.Native.Nat.{ℕ, _*_, _%_, _≤_, _<_}
+use Prim.Native.Nat.{ℕ, _<_}
 use native.Mathlib.Omega.{arith}
 use lib.ListN.{length}
 use lib.Dec.{leb, eqb}
@@ -11,11 +11,11 @@ use Rattle.medium.specs.declared.geometry.Geometry.{Geometry}
 use Rattle.medium.specs.declared.fuse.Fuse.{Fuse}
 use Rattle.medium.specs.declared.fuse.Fuse.the-variants.{Absent, Units}
 use Rattle.medium.specs.Granularity.{pick, mostStrict}
-use Rattle.medium.specs.Geometry.{limitOf, geometryOk, checkOf}
+use Rattle.medium.specs.Geometry.{geometryOk, checkOf}
 use Rattle.medium.specs.Operation.{flash, cost, Answer, done, refused, andThen, orRefuse, Run, Op, ask, putting, EndIn, cutBy, cut, run}
 use Rattle.medium.specs.Medium.{unitsAt, writable, storable}
 use Rattle.medium.specs.Medium as medium
-use Rattle.medium.specs.Beside.{Both, both, beside}
+use Rattle.medium.specs.Beside.{Both, beside}
 use Rattle.medium.specs.Marked.{Fresh, FreshBeside, OnceBeside, Marked, same, stopped, UnderMark, UnderMarkBeside, withStrict, Beside}
 use Rattle.medium.proofs.Runs.{run-ask}
 use Rattle.medium.proofs.Strict.{unmarked, ten-when, only-then}
@@ -30,11 +30,11 @@ use Rattle.batch.proofs.Strict.{write-all-under}
 use Rattle.fresh.proofs.Places.{mark-most}
 use Rattle.fresh.proofs.Marked.{beside-plain}
 use Rattle.sweep.specs.Lists.{every}
-use Rattle.sweep.specs.Referring.{listings, metadataIn, isSound, sweepable}
+use Rattle.sweep.specs.Referring.{listings, sweepable}
 use Rattle.sweep.specs.Laws.{sweepBy}
 use Rattle.sweep.proofs.Turns.{sweep-stop}
 use Rattle.strict.specs.Calls.{Call, write, erase, setState, updateState, setPayloadSize, allocate, writePayload, finalize, delete, writeTo, copyObject, moveObject, writeHeader, formatBlock, formatStorage, setBlockType, deleteInvalidObjects, eraseInvalidFinishedBlocks, eraseFullFinishedBlocks, collect, writeAll, alone, does}
-use Rattle.strict.specs.Laws.{plainWrite, Unchanged, Refuses, TenIff, TenExactly, OnlyOnce, AsPlain, OnlyStops, Kept, SweepRefuses}
+use Rattle.strict.specs.Laws.{plainWrite, Unchanged, Refuses, TenExactly, OnlyOnce, OnlyStops, SweepRefuses}
 
 -- ---- one store
 

@@ -1,7 +1,7 @@
 -- The chip that refuses a second programming: what the strict mark promises, for every call that stores.
 use mathlib.Core.Path.{_≡_}
 use mathlib.Core.Bool.{true}
-use mathlib.Core.List.{List, []}
+use mathlib.Core.List.{List}
 use Prim.Native.Nat.{ℕ, _<_}
 use lib.ListN.{length, getD}
 use lib.Dec.{eqb}
@@ -9,7 +9,7 @@ use Rattle.medium.specs.declared.geometry.Geometry.{Geometry}
 use Rattle.medium.specs.declared.fuse.Fuse.{Fuse}
 use Rattle.medium.specs.Granularity.{pick}
 use Rattle.medium.specs.Geometry.{geometryOk, checkOf}
-use Rattle.medium.specs.Operation.{Answer, done, refused, Op, refuse, putting, run}
+use Rattle.medium.specs.Operation.{done, refused, Op, refuse, putting, run}
 use Rattle.medium.specs.Strict.{anyAgain}
 use Rattle.medium.specs.Medium.{unitsAt, writable, write}
 use Rattle.medium.specs.Beside.{Both}
