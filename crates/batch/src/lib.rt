@@ -1,6 +1,8 @@
 // Several objects of one block in one call: up to 64 records, each written as `write_to` writes one, in order, up to the first refusal.
 //
 // Always true: the number of records done comes back beside every answer. They are the first ones, and each of them is wholly written.
+#![tactic(auto)]
+
 pub mod record;
 
 ghost use Rattle.std.specs.Prelude.{◌≡◌, [], ◌∷◌};
@@ -20,7 +22,7 @@ use writer::writer::{ObjectWriter, Wrote};
 const MOST_RECORDS: usize = 64;
 
 // An answer, and how many records were done before it.
-#[derive(Drop)]
+#[derive(Clone, Copy)]
 pub struct Batched {
     pub answer: Stored,
     pub done: u32,

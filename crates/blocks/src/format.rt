@@ -8,7 +8,7 @@ use medium::fuse::{Fuse, Stored};
 use medium::geometry::Geometry;
 
 // Whether anything is written in a range that was asked for.
-#[derive(Drop)]
+#[derive(Clone, Copy)]
 pub enum Emptiness {
     Empty,
     Written,
@@ -28,7 +28,7 @@ impl Emptiness {
 }
 
 // What a format will store: nothing, a header with the count 0, or an erase and then a header with a count.
-#[derive(Drop)]
+#[derive(Clone, Copy)]
 pub enum Plan {
     Keep,
     Label,

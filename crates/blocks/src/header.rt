@@ -9,7 +9,7 @@ use medium::fuse::{Answered, Fuse, Stored};
 use medium::geometry::Geometry;
 use medium::granularity::Granularity;
 
-#[derive(Drop)]
+#[derive(Clone, Copy)]
 pub enum BlockType {
     Metadata,
     Data,
@@ -46,7 +46,7 @@ impl BlockType {
     }
 }
 
-#[derive(Drop)]
+#[derive(Clone, Copy)]
 pub enum BlockHeaderKind {
     Empty,
     Unknown,
@@ -54,7 +54,7 @@ pub enum BlockHeaderKind {
 }
 
 // What a kind's number says.
-#[derive(Drop)]
+#[derive(Clone, Copy)]
 pub enum KindRead {
     Got(BlockHeaderKind),
     Refused(u8),
@@ -288,13 +288,13 @@ fn around(
     raw
 }
 
-#[derive(Drop)]
+#[derive(Clone, Copy)]
 pub struct BlockHeader {
     pub kind: BlockHeaderKind,
     pub erase_count: u32,
 }
 
-#[derive(Drop)]
+#[derive(Clone, Copy)]
 pub enum BlockHeaderRead {
     Got(BlockHeader),
     Refused(u8),

@@ -9,6 +9,8 @@
 // may be allocated behind the last one.
 //
 // Always true: a block that was formatted with power scans as Undefined, with only its header used (specs/Formatted.antt).
+#![tactic(auto)]
+
 pub mod format;
 pub mod header;
 pub mod record;

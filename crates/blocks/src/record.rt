@@ -8,7 +8,7 @@ use crate::format::Emptiness;
 use crate::header::{BlockHeader, BlockHeaderKind, BlockType, KindRead};
 use medium::geometry::{Counted, Geometry};
 
-#[derive(Drop)]
+#[derive(Clone, Copy)]
 pub struct BlockInfo {
     pub header: BlockHeader,
     // The header's bytes too.
@@ -17,7 +17,7 @@ pub struct BlockInfo {
     pub allow_alloc: bool,
 }
 
-#[derive(Drop)]
+#[derive(Clone, Copy)]
 pub enum BlockInfoRead {
     Got(BlockInfo),
     Refused(u8),

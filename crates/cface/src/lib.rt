@@ -8,6 +8,8 @@
 //
 // tools/cface makes the functions, their contracts and their proofs from one table; written by hand is what they hand out by: cursors,
 // filled, writers.
+#![tactic(auto)]
+
 mod cursors;
 mod filled;
 pub mod header_calls;

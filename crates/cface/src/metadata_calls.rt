@@ -48,7 +48,7 @@ pub extern "C" fn stumpchoir_location_read_metadata(
         block: block,
         offset: offset,
     };
-    let a = metadata::read_at_lem(g, image, at);
+    let a = metadata::read_at(g, image, at);
     cursors::hand_metadata(a, metadata)
 }
 

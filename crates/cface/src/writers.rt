@@ -14,7 +14,7 @@ use objects::state::CompositeObjectState;
 use writer::writer::{ObjectWriter, Writing, Wrote};
 
 // A writer beside the answer of its reading.
-#[derive(Drop)]
+#[derive(Clone, Copy)]
 pub struct WriterRead {
     pub answer: Answered,
     pub writer: ObjectWriter,

@@ -2,6 +2,8 @@
 //
 // What is said in crates/cface of numbers, fuses and refusals holds here. tools/cface makes the functions, their contracts and their proofs
 // from the same table.
+#![tactic(auto)]
+
 pub mod block_calls;
 pub mod collector_calls;
 pub mod record_calls;

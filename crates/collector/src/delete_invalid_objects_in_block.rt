@@ -18,14 +18,14 @@ use objects::iterator::{Next, ObjectIterator};
 use objects::state::ObjectState;
 
 // Whether an object was deleted, beside the answer of its stores.
-#[derive(Drop)]
+#[derive(Clone, Copy)]
 struct Repaired {
     answer: Stored,
     deleted: bool,
 }
 
 // Whether a listing goes on, beside the answer.
-#[derive(Drop)]
+#[derive(Clone, Copy)]
 struct Visited {
     answer: Stored,
     more: bool,

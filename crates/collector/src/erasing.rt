@@ -19,7 +19,7 @@ use medium::granularity::Granularity;
 use objects::iterator::Next;
 
 // Whether a block is to be formatted.
-#[derive(Drop)]
+#[derive(Clone, Copy)]
 pub(crate) enum Finding {
     Erase,
     Keep,

@@ -8,6 +8,8 @@
 // units and fields that were stored before it.
 //
 // A file for what each pass does to one block, named as in the Rust; what the two erasing passes share; and the pass over all blocks.
+#![tactic(auto)]
+
 mod delete_invalid_objects_in_block;
 mod erase_full_finished_block;
 mod erase_invalid_finished_block;

@@ -13,7 +13,7 @@ use blocks::record::BlockInfoRead;
 use medium::fuse::{Fuse, Stored};
 use medium::geometry::Geometry;
 
-#[derive(Drop)]
+#[derive(Clone, Copy)]
 pub(crate) enum PassKind {
     DeleteInvalidObjects,
     EraseInvalidFinishedBlocks,

@@ -11,7 +11,7 @@ use blocks::header::{BlockHeader, BlockHeaderRead, BlockType};
 use blocks::record::{BlockInfo, BlockInfoRead};
 
 // What a type's number says.
-#[derive(Drop)]
+#[derive(Clone, Copy)]
 pub enum BlockTypeRead {
     Got(BlockType),
     Refused(u8),

@@ -69,13 +69,13 @@ pub fn header_of(n: &[u32; 5]) -> HeaderRead
 }
 
 // A header and the state that its object is to go to.
-#[derive(Drop)]
+#[derive(Clone, Copy)]
 pub struct Target {
     pub header: ObjectHeader,
     pub state: ObjectState,
 }
 
-#[derive(Drop)]
+#[derive(Clone, Copy)]
 pub enum TargetRead {
     Got(Target),
     Refused(u8),

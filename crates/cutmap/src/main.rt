@@ -5,6 +5,8 @@
 // reads geometry.bin and image.bin, and moves the object at a block and offset to another place, each time on a fresh copy of the image,
 // with a fuse from 0 to one past the last unit. A line a fuse: the answer, what the original and the copy read as, and whether their types
 // and payloads agree. The last line names the moment of the twin: the fuse at which both are whole.
+#![tactic(auto)]
+
 ghost use Rattle.std.specs.Prelude.{◌≤◌, ◌≡◌, length};
 
 use cuts::moment::Moment;
@@ -133,7 +135,7 @@ fn usage() {
 }
 
 // The place that two arguments name.
-#[derive(Drop)]
+#[derive(Clone, Copy)]
 enum Place {
     At(ObjectLocation),
     Refused,

@@ -14,7 +14,7 @@ use objects::location::ObjectLocation;
 use objects::state::CompositeObjectState;
 use objects::{info, payload};
 
-#[derive(Drop)]
+#[derive(Clone, Copy)]
 pub struct Moment {
     pub answer: u8,
     pub original: InfoRead,

@@ -2,6 +2,8 @@
 //
 // A file that is missing or cannot be read is named on standard error with the reason. A record or an image that is wrong is refused with
 // 01's number: 6 for the geometry, and then 7 for the image.
+#![tactic(auto)]
+
 mod pair;
 mod whole;
 

@@ -6,7 +6,7 @@ use crate::whole;
 use crate::whole::FileRead;
 use medium::geometry::{Geometry, GeometryRead};
 
-#[derive(Drop)]
+#[derive(Clone, Copy)]
 pub enum Loaded {
     // A sound geometry, and an image of the length that it says in the first bytes of the buffer.
     Ready(Geometry, usize),
@@ -14,7 +14,7 @@ pub enum Loaded {
     Failed,
 }
 
-#[derive(Drop)]
+#[derive(Clone, Copy)]
 enum RecordFile {
     Got(Geometry),
     Refused(u8),

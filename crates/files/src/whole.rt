@@ -2,7 +2,7 @@
 ghost use Rattle.std.specs.Prelude.{length};
 ghost use Rattle.files.specs.Files.{PieceFits, FileFits};
 
-#[derive(Drop)]
+#[derive(Clone, Copy)]
 pub enum FileRead {
     // How many bytes it has.
     Bytes(usize),
@@ -13,7 +13,7 @@ pub enum FileRead {
 }
 
 // What one read gives.
-#[derive(Drop)]
+#[derive(Clone, Copy)]
 enum Piece {
     Bytes(usize),
     End,

@@ -2,6 +2,8 @@
 //
 // It holds six numbers, granularity, the two field widths, the strict mark, block size and block count, and then four bytes 0. What it says
 // may still break a rule of the geometry: the medium tests those.
+#![tactic(auto)]
+
 ghost use Rattle.std.specs.Prelude.{◌≡◌, ◌+◌, ◌≤◌, length};
 ghost use Rattle.medium.specs.Geometry.{geometry_answer};
 ghost use Rattle.geometry_record.specs.GeometryRecord.{word_at, well_formed, numbers_of, recorded};

@@ -6,6 +6,8 @@
 // A line a block: its number, kind, erase count, used bytes, and whether objects may be allocated in it; or "refused" and a number. Behind
 // the line of a Metadata, Data or Undefined block stands a line an object: block, offset, type, state and payload size, or `-` for a size
 // that is not set.
+#![tactic(auto)]
+
 use blocks::record::BlockInfoRead;
 use files::Loaded;
 use libc::{STDERR_FILENO, STDOUT_FILENO};

@@ -7,7 +7,7 @@ use crate::{number, object, refusal, words};
 use objects::info::InfoRead;
 
 // At which fuses there are two whole objects.
-#[derive(Drop)]
+#[derive(Clone, Copy)]
 pub enum Twin {
     Never,
     At(u32),

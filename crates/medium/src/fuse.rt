@@ -2,14 +2,14 @@
 ghost use Rattle.std.specs.Prelude.{◌≡◌};
 ghost use Rattle.medium.specs.Fuse.{spend_of, granted_of, stored_of, stored_number, answered_number};
 
-#[derive(Drop)]
+#[derive(Clone, Copy)]
 pub enum Fuse {
     Absent,
     Units(u32),
 }
 
 // What a store leaves: done, with the fuse to go on with, or refused with 01's number.
-#[derive(Drop)]
+#[derive(Clone, Copy)]
 pub enum Stored {
     Done(Fuse),
     Refused(u8, Fuse),
@@ -27,7 +27,7 @@ impl Stored {
 }
 
 // What a call that stores nothing answers.
-#[derive(Drop)]
+#[derive(Clone, Copy)]
 pub enum Answered {
     Done,
     Refused(u8),
@@ -45,7 +45,7 @@ impl Answered {
 }
 
 // Enough for all that was asked, with the fuse that is left, or for fewer units.
-#[derive(Drop)]
+#[derive(Clone, Copy)]
 pub enum Spent {
     Enough(Fuse),
     Short(u32),

@@ -6,7 +6,7 @@ ghost use Rattle.medium.specs.Geometry.{limit_of, check_of, fit_of, fields_hold,
 
 use crate::granularity::{Granularity, GranularityRead};
 
-#[derive(Drop)]
+#[derive(Clone, Copy)]
 pub struct Geometry {
     pub granularity: Granularity,
     pub s: u8,
@@ -17,7 +17,7 @@ pub struct Geometry {
 }
 
 // What numbers say of a geometry.
-#[derive(Drop)]
+#[derive(Clone, Copy)]
 pub enum GeometryRead {
     Got(Geometry),
     Refused(u8),
@@ -135,7 +135,7 @@ pub fn check(g: Geometry, room: usize) -> u8
 }
 
 // What a call that counts bytes answers: how many, or a refusal.
-#[derive(Drop)]
+#[derive(Clone, Copy)]
 pub enum Counted {
     Bytes(usize),
     Refused(u8),

@@ -2,7 +2,7 @@
 ghost use Rattle.std.specs.Prelude.{◌≡◌, ◌^◌, ◌≤◌, ◌<◌};
 ghost use Rattle.medium.specs.Granularity.{granularity_of, granularity_answer, granularity_number, widest_unit, byte_of, width_of, units_in, align_of, most_strict, finish_at, delete_at, finish_mark, size_at, header, block_header, type_at, layout_bit};
 
-#[derive(Drop)]
+#[derive(Clone, Copy)]
 pub enum Granularity {
     Bit,
     Word1,
@@ -10,7 +10,7 @@ pub enum Granularity {
 }
 
 // What a granularity byte says.
-#[derive(Drop)]
+#[derive(Clone, Copy)]
 pub enum GranularityRead {
     Got(Granularity),
     Refused(u8),

@@ -8,6 +8,8 @@
 //
 // Always true: a refusal with 6, 7, 3 or 10 changes nothing; with 8 exactly the first units are stored; a read never needs power; no
 // call touches a byte outside the block that it names.
+#![tactic(auto)]
+
 pub mod fuse;
 pub mod geometry;
 pub mod granularity;
@@ -201,7 +203,7 @@ pub fn read(g: Geometry, image: &[u8], block: u32, offset: usize, buffer: &mut [
     }
     let at = (block as usize) * (g.size as usize) + offset;
     let n = buffer.len();
-    bytes::copy(&image[at..at + n], buffer);
+    buffer.copy_from_slice(&image[at..at + n]);
     Answered::Done
 }
 

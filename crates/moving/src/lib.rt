@@ -2,6 +2,8 @@
 //
 // A copy is written by a writer, so it comes to be in a writer's order: type, payload, size, and last the mark that finishes it. A move deletes
 // the original after that mark. What a loss of power leaves of it is in crates/powercut.
+#![tactic(auto)]
+
 pub mod source;
 
 ghost use Rattle.std.specs.Prelude.{◌≡◌, ◌+◌, ◌≤◌, ◌<◌, ◌^◌, min, length};

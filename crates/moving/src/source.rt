@@ -4,13 +4,13 @@ ghost use Rattle.moving.specs.Moving.{source_number};
 
 use objects::types::ObjectType;
 
-#[derive(Drop)]
+#[derive(Clone, Copy)]
 pub struct Source {
     pub kind: ObjectType,
     pub size: usize,
 }
 
-#[derive(Drop)]
+#[derive(Clone, Copy)]
 pub enum SourceRead {
     Got(Source),
     Refused(u8),

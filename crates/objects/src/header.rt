@@ -10,14 +10,14 @@ use crate::state::{CompositeObjectState, ObjectDataState, ObjectState, StateRead
 use medium::fuse::{Answered, Fuse, Stored};
 use medium::geometry::Geometry;
 
-#[derive(Drop)]
+#[derive(Clone, Copy)]
 pub struct ObjectHeader {
     pub state: CompositeObjectState,
     pub size: u32,
     pub location: ObjectLocation,
 }
 
-#[derive(Drop)]
+#[derive(Clone, Copy)]
 pub enum HeaderRead {
     Got(ObjectHeader),
     Refused(u8),
@@ -35,14 +35,14 @@ impl HeaderRead {
 }
 
 // A size field that is set, or all FF.
-#[derive(Drop)]
+#[derive(Clone, Copy)]
 pub enum PayloadSize {
     Set(u32),
     Unset,
 }
 
 // A header beside the answer of a store: as it went in where the store was refused.
-#[derive(Drop)]
+#[derive(Clone, Copy)]
 pub struct Headed {
     pub answer: Stored,
     pub header: ObjectHeader,

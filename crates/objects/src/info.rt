@@ -12,7 +12,7 @@ use medium::fuse::Fuse;
 use medium::geometry::{Counted, Geometry};
 use medium::granularity::Granularity;
 
-#[derive(Drop)]
+#[derive(Clone, Copy)]
 pub enum InfoRead {
     Found(ObjectHeader),
     Free,

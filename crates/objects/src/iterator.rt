@@ -8,13 +8,13 @@ use crate::info::InfoRead;
 use crate::location::ObjectLocation;
 use medium::geometry::Geometry;
 
-#[derive(Drop)]
+#[derive(Clone, Copy)]
 pub struct ObjectIterator {
     pub location: ObjectLocation,
 }
 
 // What stands at the iterator: an object, with the iterator behind it, or why listing stops.
-#[derive(Drop)]
+#[derive(Clone, Copy)]
 pub enum Next {
     Object(ObjectHeader, ObjectIterator),
     Free,

@@ -10,6 +10,8 @@
 // that are no header. An unfinished object whose size is not set yet is stepped over by its header alone.
 //
 // The writer, and with it copying and moving, is the crate `writer`.
+#![tactic(auto)]
+
 pub mod header;
 pub mod info;
 pub mod iterator;

@@ -7,14 +7,14 @@ ghost use Rattle.objects.specs.Location.{location_answer, location_number, into_
 use medium::fuse::Answered;
 use medium::geometry::Geometry;
 
-#[derive(Drop)]
+#[derive(Clone, Copy)]
 pub struct ObjectLocation {
     pub block: u32,
     pub offset: u32,
 }
 
 // What c + s bytes say.
-#[derive(Drop)]
+#[derive(Clone, Copy)]
 pub enum LocationRead {
     Got(ObjectLocation),
     Refused(u8),

@@ -12,7 +12,7 @@ use crate::{info, location, payload};
 use medium::fuse::Answered;
 use medium::geometry::{Counted, Geometry};
 
-#[derive(Drop)]
+#[derive(Clone, Copy)]
 pub struct MetadataObjectHeader {
     pub object: ObjectHeader,
     pub hash: u32,
@@ -20,7 +20,7 @@ pub struct MetadataObjectHeader {
     pub cursor: usize,
 }
 
-#[derive(Drop)]
+#[derive(Clone, Copy)]
 pub enum MetadataRead {
     Got(MetadataObjectHeader),
     Refused(u8),
@@ -38,7 +38,7 @@ impl MetadataRead {
 }
 
 // The next location of the list, with the header behind it; the list's end; or a refusal, after which the caller's header stands.
-#[derive(Drop)]
+#[derive(Clone, Copy)]
 pub enum NextLocation {
     At(ObjectLocation, MetadataObjectHeader),
     End,
@@ -46,7 +46,7 @@ pub enum NextLocation {
 }
 
 // A number of a range's bytes.
-#[derive(Drop)]
+#[derive(Clone, Copy)]
 enum NumberRead {
     Got(u32),
     Refused(u8),
@@ -120,7 +120,7 @@ pub fn read(g: Geometry, image: &[u8], h: ObjectHeader) -> MetadataRead
 }
 
 // The same of the object at a place: 2 where none is there.
-pub fn read_at_lem(g: Geometry, image: &[u8], at: ObjectLocation) -> MetadataRead
+pub fn read_at(g: Geometry, image: &[u8], at: ObjectLocation) -> MetadataRead
     ensures { metadata_answer result ≡ metadata_at g at image.now }
 {
     let r = info::read(g, image, at);

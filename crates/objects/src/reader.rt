@@ -9,13 +9,13 @@ use crate::payload;
 use medium::fuse::Answered;
 use medium::geometry::{Counted, Geometry};
 
-#[derive(Drop)]
+#[derive(Clone, Copy)]
 pub struct ObjectReader {
     pub object: ObjectHeader,
     pub cursor: usize,
 }
 
-#[derive(Drop)]
+#[derive(Clone, Copy)]
 pub enum ReaderRead {
     Got(ObjectReader),
     Refused(u8),
@@ -33,7 +33,7 @@ impl ReaderRead {
 }
 
 // How many bytes were read, and the reader behind them; after a refusal the caller's reader stands.
-#[derive(Drop)]
+#[derive(Clone, Copy)]
 pub enum Reading {
     Read(usize, ObjectReader),
     Refused(u8),

@@ -11,7 +11,7 @@ use medium::fuse::Answered;
 use medium::geometry::Geometry;
 use medium::granularity::Granularity;
 
-#[derive(Drop)]
+#[derive(Clone, Copy)]
 pub enum ObjectDataState {
     Untrusted,
     Valid,
@@ -19,7 +19,7 @@ pub enum ObjectDataState {
 }
 
 // What the marks say.
-#[derive(Drop)]
+#[derive(Clone, Copy)]
 pub enum DataStateRead {
     Got(ObjectDataState),
     Refused(u8),
@@ -36,13 +36,13 @@ impl DataStateRead {
     }
 }
 
-#[derive(Drop)]
+#[derive(Clone, Copy)]
 pub enum CompositeObjectState {
     Free,
     Allocated(ObjectType, ObjectDataState),
 }
 
-#[derive(Drop)]
+#[derive(Clone, Copy)]
 pub enum ObjectState {
     Free,
     Allocated,
@@ -51,7 +51,7 @@ pub enum ObjectState {
 }
 
 // What the bytes before the size field say.
-#[derive(Drop)]
+#[derive(Clone, Copy)]
 pub enum StateRead {
     Got(CompositeObjectState),
     Refused(u8),

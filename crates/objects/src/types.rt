@@ -2,7 +2,7 @@
 ghost use Rattle.std.specs.Prelude.{◌≡◌};
 ghost use Rattle.objects.specs.Types.{type_byte, type_of, type_answer, object_type_of, object_type_answer, object_type_number};
 
-#[derive(Drop)]
+#[derive(Clone, Copy)]
 pub enum ObjectType {
     FileMetadata,
     FileData,
@@ -10,7 +10,7 @@ pub enum ObjectType {
 }
 
 // What a type byte says.
-#[derive(Drop)]
+#[derive(Clone, Copy)]
 pub enum TypeRead {
     Got(ObjectType),
     Free,
@@ -18,7 +18,7 @@ pub enum TypeRead {
 }
 
 // What a number that a caller gives for a type says.
-#[derive(Drop)]
+#[derive(Clone, Copy)]
 pub enum ObjectTypeRead {
     Got(ObjectType),
     Refused(u8),

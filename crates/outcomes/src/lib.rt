@@ -1,1 +1,2 @@
 // That each public function has one outcome. The code is in the crates below.
+#![tactic(auto)]

@@ -5,6 +5,8 @@
 // specs/Listed.antt. What can be done after a cut is in specs/Again.antt; at which cuts the copy's block can still be listed in
 // specs/Scans.antt, and scanned in specs/Rescans.antt; computed rows are in specs/Rows.antt. The one function here is that call again,
 // with the demand in its contract.
+#![tactic(auto)]
+
 ghost use Rattle.std.specs.Prelude.{◌≡◌};
 ghost use Rattle.medium.specs.Operation.{run, ended_by, unless_stored};
 ghost use Rattle.moving.specs.Moving.{move_object};

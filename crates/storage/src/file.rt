@@ -13,7 +13,7 @@ use objects::reader::{ObjectReader, ReaderRead};
 use objects::{metadata, payload};
 
 // What the next data object gives: where its bytes stand, how many they are, and how many are to be skipped behind it.
-#[derive(Drop)]
+#[derive(Clone, Copy)]
 struct Piece {
     block: u32,
     at: usize,
@@ -22,7 +22,7 @@ struct Piece {
 }
 
 // A piece, with the list of locations behind its object.
-#[derive(Drop)]
+#[derive(Clone, Copy)]
 enum NextPiece {
     Some(Piece, MetadataObjectHeader),
     End,
@@ -161,7 +161,7 @@ pub fn read(
     ensures result_value { counted result ≡ count_of (read_file g at position (length buffer.old) image.now) }
     ensures buffer_after { buffer.new ≡ put_into (read_file g at position (length buffer.old) image.now) buffer.old }
 {
-    let got = metadata::read_at_lem(g, image, at);
+    let got = metadata::read_at(g, image, at);
     let MetadataRead::Got(m) = got else {
         return Counted::Refused(got.number());
     };
@@ -177,7 +177,7 @@ pub fn read(
 pub fn size(g: Geometry, image: &[u8], at: ObjectLocation) -> Counted
     ensures { counted result ≡ file_size g at image.now }
 {
-    let got = metadata::read_at_lem(g, image, at);
+    let got = metadata::read_at(g, image, at);
     let MetadataRead::Got(m) = got else {
         return Counted::Refused(got.number());
     };

@@ -4,6 +4,8 @@
 // file's data objects are, in order. The hash is the caller's. Objects are looked at in one order, block by block and then by offset.
 //
 // Always true: nothing is stored and no power is needed; a refused read leaves the whole buffer as it was.
+#![tactic(auto)]
+
 pub mod file;
 pub mod lookup;
 pub mod names;

@@ -15,14 +15,14 @@ use objects::metadata::MetadataRead;
 use objects::reader::{ObjectReader, ReaderRead};
 use objects::{metadata, payload};
 
-#[derive(Drop)]
+#[derive(Clone, Copy)]
 pub struct Names {
     pub place: ObjectIterator,
 }
 
 // How long the next name is, where its file's metadata object is, and the names behind it; the end; or a refusal, after which the caller's
 // names stand.
-#[derive(Drop)]
+#[derive(Clone, Copy)]
 pub enum NextName {
     Name(usize, ObjectLocation, Names),
     End,

@@ -9,7 +9,7 @@ use objects::header::ObjectHeader;
 use objects::iterator::{Next, ObjectIterator};
 
 // Whether something holds, or why it cannot be said.
-#[derive(Drop)]
+#[derive(Clone, Copy)]
 pub enum Judged {
     Yes,
     No,
@@ -17,14 +17,14 @@ pub enum Judged {
 }
 
 // A place in a block, and whether the block's type was looked at already.
-#[derive(Drop)]
+#[derive(Clone, Copy)]
 pub struct Visitor {
     pub place: ObjectIterator,
     pub opened: bool,
 }
 
 // The next object, with the visitor behind it; the end of the store; or a refusal, after which the caller's visitor stands.
-#[derive(Drop)]
+#[derive(Clone, Copy)]
 pub enum Visited {
     Object(ObjectHeader, Visitor),
     End,
@@ -32,7 +32,7 @@ pub enum Visited {
 }
 
 // The same of a single step in a block, which may also meet an object that is not Finalized, or the block's end.
-#[derive(Drop)]
+#[derive(Clone, Copy)]
 enum Step {
     Object(ObjectHeader, Visitor),
     On(Visitor),

@@ -5,6 +5,8 @@
 // less time, and is the same.
 //
 // Always true: what is refused is refused before any store; nothing but delete marks is stored, one unit each.
+#![tactic(auto)]
+
 mod check;
 mod notes;
 mod refs;
@@ -22,7 +24,7 @@ use medium::fuse::{Answered, Fuse, Stored};
 use medium::geometry::Geometry;
 
 // An answer, with how many twins and how many objects that nothing refers to were deleted before it.
-#[derive(Drop)]
+#[derive(Clone, Copy)]
 pub struct Swept {
     pub answer: Stored,
     pub twins: u32,

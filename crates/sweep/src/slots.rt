@@ -3,7 +3,7 @@ ghost use Rattle.std.specs.Prelude.{◌≡◌};
 ghost use Rattle.sweep.specs.Slots.{key_of, find, take_by};
 
 // The key has a slot already, with a block to look from; or this slot is free; or there is none.
-#[derive(Drop)]
+#[derive(Clone, Copy)]
 pub(crate) enum Slot {
     Met(u32),
     Free(usize),

@@ -82,7 +82,7 @@ fn has_like(g: Geometry, image: &[u8], h: ObjectHeader, block: u32) -> bool
 }
 
 // Whether an object is a twin of an earlier one, and whether the slots know all that were met, this one too.
-#[derive(Drop)]
+#[derive(Clone, Copy)]
 struct Judged {
     twin: bool,
     sure: bool,

@@ -6,4 +6,6 @@
 //
 // After a refusal the writer is as it went in. After a power cut it is spent, since what stands on the chip is then no longer what it
 // says: every later call on it gives 4.
+#![tactic(auto)]
+
 pub mod writer;

@@ -16,7 +16,7 @@ use objects::state::{CompositeObjectState, ObjectDataState, StateRead};
 use objects::types::ObjectType;
 use objects::{header, info, payload};
 
-#[derive(Drop)]
+#[derive(Clone, Copy)]
 pub struct ObjectWriter {
     pub object: ObjectHeader,
     pub cursor: usize,
@@ -26,14 +26,14 @@ pub struct ObjectWriter {
 }
 
 // A writer beside the answer of its call.
-#[derive(Drop)]
+#[derive(Clone, Copy)]
 pub struct Writing {
     pub answer: Stored,
     pub writer: ObjectWriter,
 }
 
 // Done with the bytes that the object takes, or refused.
-#[derive(Drop)]
+#[derive(Clone, Copy)]
 pub enum Wrote {
     Done(usize, Fuse),
     Refused(u8, Fuse),
