@@ -35,7 +35,7 @@ pub extern "C" fn stumpchoir_reader_new(
 // The payload size of the reader's object, 0 where it is unset.
 #[unsafe(no_mangle)]
 pub extern "C" fn stumpchoir_reader_len(geometry: &[u32; 6], reader: &[u32; 6], len: &mut u64) -> u8
-    ensures* { λ r. ⌜ told r len.new ≡ telling plain len.old (asked (geometry_in geometry.now) (reader_of reader.now) (λ g r. reader_len g r)) ⌝ }
+    ensures { told result len.new ≡ telling plain len.old (asked (geometry_in geometry.now) (reader_of reader.now) (λ g r. reader_len g r)) }
 {
     let g = call::geometry(geometry);
     let of = values::reader_of(reader);
@@ -53,7 +53,7 @@ pub extern "C" fn stumpchoir_reader_remaining(
     reader: &[u32; 6],
     remaining: &mut u64,
 ) -> u8
-    ensures* { λ r. ⌜ told r remaining.new ≡ telling plain remaining.old (asked (geometry_in geometry.now) (reader_of reader.now) (λ g r. Rattle.objects.specs.Reader.remaining g r)) ⌝ }
+    ensures { told result remaining.new ≡ telling plain remaining.old (asked (geometry_in geometry.now) (reader_of reader.now) (λ g r. Rattle.objects.specs.Reader.remaining g r)) }
 {
     let g = call::geometry(geometry);
     let of = values::reader_of(reader);
@@ -82,7 +82,7 @@ pub extern "C" fn stumpchoir_reader_read(
     buffer: &mut [u8],
     read: &mut u64,
 ) -> u8
-    ensures* { λ r. ⌜ told r (two reader.new (two buffer.new read.new)) ≡ telling_by chunk_out (two reader.old (two buffer.old read.old)) (asked_in (geometry_in geometry.now) (length image.now) (reader_of reader.old) (λ g r. read_some g r (length buffer.old) image.now)) ⌝ }
+    ensures { told result (two reader.new (two buffer.new read.new)) ≡ telling_by chunk_out (two reader.old (two buffer.old read.old)) (asked_in (geometry_in geometry.now) (length image.now) (reader_of reader.old) (λ g r. read_some g r (length buffer.old) image.now)) }
 {
     let g = call::geometry(geometry);
     let of = values::reader_of(reader);

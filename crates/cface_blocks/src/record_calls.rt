@@ -15,7 +15,7 @@ pub extern "C" fn stumpchoir_record_free_space(
     record: &[u32; 4],
     space: &mut u64,
 ) -> u8
-    ensures* { λ r. ⌜ told r space.new ≡ telling plain space.old (asked (geometry_in geometry.now) (record_of «record».now) (λ g r. free_space g r)) ⌝ }
+    ensures { told result space.new ≡ telling plain space.old (asked (geometry_in geometry.now) (record_of «record».now) (λ g r. free_space g r)) }
 {
     let g = call::geometry(geometry);
     let of = records::record_of(record);
@@ -33,7 +33,7 @@ pub extern "C" fn stumpchoir_record_is_empty(
     record: &[u32; 4],
     empty: &mut u32,
 ) -> u8
-    ensures* { λ r. ⌜ told r empty.new ≡ telling flag_number empty.old (asked (geometry_in geometry.now) (record_of «record».now) (λ g r. record_empty g r)) ⌝ }
+    ensures { told result empty.new ≡ telling flag_number empty.old (asked (geometry_in geometry.now) (record_of «record».now) (λ g r. record_empty g r)) }
 {
     let g = call::geometry(geometry);
     let of = records::record_of(record);
@@ -51,7 +51,7 @@ pub extern "C" fn stumpchoir_record_add_used_bytes(
     record: &mut [u32; 4],
     total_size: u32,
 ) -> u8
-    ensures* { λ r. ⌜ told r «record».new ≡ telling record_numbers «record».old (asked (geometry_in geometry.now) (record_of «record».old) (λ g r. add_used_bytes g r total_size)) ⌝ }
+    ensures { told result «record».new ≡ telling record_numbers «record».old (asked (geometry_in geometry.now) (record_of «record».old) (λ g r. add_used_bytes g r total_size)) }
 {
     let g = call::geometry(geometry);
     let of = records::record_of(record);
@@ -68,7 +68,7 @@ pub extern "C" fn stumpchoir_record_update_stats_after_erase(
     geometry: &[u32; 6],
     record: &mut [u32; 4],
 ) -> u8
-    ensures* { λ r. ⌜ told r «record».new ≡ telling record_numbers «record».old (asked (geometry_in geometry.now) (record_of «record».old) (λ g r. update_stats_after_erase g r)) ⌝ }
+    ensures { told result «record».new ≡ telling record_numbers «record».old (asked (geometry_in geometry.now) (record_of «record».old) (λ g r. update_stats_after_erase g r)) }
 {
     let g = call::geometry(geometry);
     let of = records::record_of(record);

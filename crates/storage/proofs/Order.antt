@@ -95,9 +95,9 @@ module _ (g : Geometry) (t : BlockType) (img : List ℕ) where
   open_by (done block_end) = no_tour
   open_by (refused n) = broken_tour n
 
-  open_by : (i : ObjectIterator) → check_of g (length img) ≡ 0 → (m : Answer Met) → m ≡ next_of g i img → open_tour g i img ≡ open_by m
+  open_by_lem : (i : ObjectIterator) → check_of g (length img) ≡ 0 → (m : Answer Met) → m ≡ next_of g i img → open_tour g i img ≡ open_by m
   unfolding open_tour
-  open_by i c m e = ap listed_tour (list_by_lem g img c i m e) ∙ go m
+  open_by_lem i c m e = ap listed_tour (list_by_lem g img c i m e) ∙ go m
     where
       finished : (b : Bool) (h : ObjectHeader) (l : Listing) → record { objects = pick b (h ∷ (listed_tour l).objects) (listed_tour l).objects; end = (listed_tour l).end } ≡ pick b (first_then h (listed_tour l)) (listed_tour l)
       finished true h l = refl
@@ -116,7 +116,7 @@ module _ (g : Geometry) (t : BlockType) (img : List ℕ) where
 
     pub tour-step : open_of g t v img ≡ done true → tour_from g t v img ≡ step_tour g t img (step_of g v (next_of g v.place img))
     unfolding step_of
-    tour-step o = open-on v h o ∙ ap (λ (x : Tour). joined x (tour_from g t (next_block v) img)) (open_by v.place c (next_of g v.place img) refl) ∙ go (next_of g v.place img) refl
+    tour-step o = open-on v h o ∙ ap (λ (x : Tour). joined x (tour_from g t (next_block v) img)) (open_by_lem v.place c (next_of g v.place img) refl) ∙ go (next_of g v.place img) refl
       where
         met : (b : Bool) (o : ObjectHeader) (j : ObjectIterator) → j.location.block ≡ v.place.location.block
             → joined (pick b (first_then o (open_tour g j img)) (open_tour g j img)) (tour_from g t (next_block v) img) ≡ step_tour g t img (pick b (step.Object o (open_visit j)) (step.On (open_visit j)))
