@@ -1,12 +1,11 @@
 -- The strict mark at blocks: a header, a type and a format it can only stop.
 use mathlib.Core.Path.{◌≡◌, refl}
-use mathlib.Core.Bool.{Bool}
 use mathlib.Core.List.{List, [], ◌∷◌}
 use Prim.Native.Nat.{ℕ, zero, suc, ◌+◌}
 use lib.ListN.{length}
 use Rattle.medium.specs.declared.geometry.Geometry.{Geometry}
 use Rattle.medium.specs.Granularity.{longest_block_header, block_header, type_at}
-use Rattle.medium.specs.Operation.{flash, Answer, done, refused, and_then}
+use Rattle.medium.specs.Operation.{flash}
 use Rattle.medium.specs.Marked.{Fresh, UnderMark, with_strict, Beside}
 use Rattle.medium.proofs.Marked.{ask_under, kept_under, test_under, bind_under, read_same, write_under, erase_under}
 use Rattle.objects.proofs.Strict.{check_same}
@@ -14,8 +13,8 @@ use Rattle.blocks.specs.declared.header.BlockType.{BlockType}
 use Rattle.blocks.specs.declared.header.BlockHeaderKind.{BlockHeaderKind}
 use Rattle.blocks.specs.declared.header.BlockHeader.{BlockHeader}
 use Rattle.blocks.specs.declared.header.BlockHeaderKind.TheVariants.{Empty, Unknown, Known}
-use Rattle.blocks.specs.BlockHeader.{type_byte, wide_bytes, header_bytes, write_header, kind_in, header_in, block_header_at}
-use Rattle.blocks.specs.Format.{data_length, data_empty_at, Planned, keep, label, renew, plan_of, plan_at, undefined, labelling, renewing, carry_out, format_block, format_from, format_storage, set_block_type}
+use Rattle.blocks.specs.BlockHeader.{type_byte, wide_bytes, header_bytes, write_header, kind_in, block_header_at}
+use Rattle.blocks.specs.Format.{data_length, data_empty_at, Planned, keep, label, renew, plan_at, undefined, labelling, renewing, carry_out, format_block, format_from, format_storage, set_block_type}
 
 module _ (g : Geometry) (m : ℕ) (v : Beside g m) where
   -- ---- what is read off the image

@@ -1,6 +1,6 @@
 -- Formatting: a block that is erased and has no header gets one; an Undefined block with nothing in it stays; any other is erased and gets a
 -- new header, with one erase more where the old count is known. "Format of a Data block, erase count 4,294,967,295: 2, nothing stored".
-use Rattle.std.specs.Prelude.{ℕ, zero, suc, ◌+◌, ◌-◌, List, [], ◌∷◌, Bool, true, false, ◌&&◌, length, eqb}
+use Rattle.std.specs.Prelude.{ℕ, zero, suc, ◌+◌, ◌-◌, List, [], ◌∷◌, Bool, true, false, length, eqb}
 use Rattle.medium.specs.declared.geometry.Geometry.{Geometry}
 use Rattle.medium.specs.Granularity.{pick, block_header, type_at}
 use Rattle.medium.specs.Geometry.{check_of}

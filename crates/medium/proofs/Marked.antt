@@ -2,22 +2,20 @@
 -- each layer above joins its own steps.
 use mathlib.Core.Path.{◌≡◌, refl, sym, ap, subst, ◌∙◌}
 use mathlib.Core.Bool.{Bool, true, false, ◌&&◌}
-use mathlib.Core.List.{List, [], ◌∷◌, ◌++◌, append_assoc, append-nil}
+use mathlib.Core.List.{List, [], ◌∷◌, ◌++◌, append_assoc}
 use Prim.Native.Nat.{ℕ, ◌+◌, ◌*◌}
-use native.Mathlib.Omega.{arith}
 use lib.ListN.{length}
 use lib.Dec.{eqb}
-use borrow.Author.Tests.{eqb-true, eqb-false, eq-eqb, ne_eqb}
+use borrow.Author.Tests.{eqb-true, eq-eqb}
 use Rattle.medium.specs.declared.geometry.Geometry.{Geometry}
 use Rattle.medium.specs.Granularity.{pick, width_of, units_in}
-use Rattle.medium.specs.Geometry.{geometry_ok, admit, fit_of, address}
+use Rattle.medium.specs.Geometry.{admit, fit_of, address}
 use Rattle.medium.specs.Units.{FlashUnit, step, padded}
 use Rattle.medium.specs.Strict.{any_again, not_erased}
 use Rattle.medium.specs.Operation.{World, flash, happen, Answer, done, refused, or_refuse, Run, OpIn, Op, follow, ◌>>=◌, ask, test, refuse, putting}
 use Rattle.medium.specs.Medium.{units_at, readable, writable, erasable, storable, read_at, write, erase}
 use Rattle.medium.specs.Beside.{Event, unit, Both, both, beside, units, on_image, fields}
 use Rattle.medium.specs.Marked.{Along, Fresh, Once, FreshBeside, OnceBeside, Stopped, Marked, same, stopped, Under, UnderMark, UnderMarkBeside, with_strict, Beside}
-use Rattle.medium.proofs.Runs.{happen_append}
 use Rattle.medium.proofs.Traced.{ran}
 use Rattle.medium.proofs.Writes.{write_is}
 use Rattle.medium.proofs.Strict.{unmarked, storable_next, once_words, twice_words}

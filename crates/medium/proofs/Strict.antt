@@ -2,20 +2,20 @@
 -- looks for a unit that would be programmed again.
 use mathlib.Core.Path.{◌≡◌, refl, sym, ap, ◌∙◌}
 use mathlib.Core.Logic.{◌⊎◌, inl, inr}
-use mathlib.Core.Bool.{Bool, true, false, ◌&&◌, ◌||◌, not, false≢true, and-false}
+use mathlib.Core.Bool.{Bool, true, false, ◌&&◌, ◌||◌, false≢true, and-false}
 use mathlib.Core.List.{List, [], ◌∷◌, ◌++◌}
 use Prim.Native.Nat.{ℕ, zero, suc, ◌+◌, ◌-◌, ◌*◌, ◌/◌, ◌%◌, ◌≤◌, ◌<◌, min}
 use native.Mathlib.Nat.{le_of_suc-le-suc, mul-add-div_right, div-eq_of_lt, suc-mul, sub-zero, zero-add}
 use native.Mathlib.Numerals.{add-one}
 use native.Mathlib.Omega.{arith}
 use lib.ListN.{length, get_or, take, drop, replicate, length-append, length-replicate, length-take, length-drop}
-use lib.Seq.{take-nil, take_all, take-take, take-append-le, drop-cons, drop-length, drop-drop, drop-append-le, get_or-take, get_or-drop, length-take-le}
+use lib.Seq.{take-nil, take-take, drop-cons, drop-length, drop-drop, drop-append-le, get_or-take, get_or-drop, length-take-le}
 use lib.Dec.{leb, ltb, eqb}
 use borrow.Author.Tests.{eqb-true, eq-eqb, ne_eqb}
 use Rattle.medium.specs.declared.geometry.Geometry.{Geometry}
 use Rattle.medium.specs.Granularity.{pick, width_of, units_in, align_of}
 use Rattle.medium.specs.Geometry.{geometry_ok, admit, address}
-use Rattle.medium.specs.Units.{FlashUnit, programmed, over, program, padded, words, units_of}
+use Rattle.medium.specs.Units.{programmed, over, program, padded, words, units_of}
 use Rattle.medium.specs.Strict.{all_ff, again, any_again, again_at, not_erased}
 use Rattle.medium.specs.Medium.{part, units_at, writable, storable}
 use Rattle.medium.specs.Marked.{Once}

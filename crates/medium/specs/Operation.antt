@@ -1,6 +1,6 @@
 -- An operation is what it stores with power, as a list of events, and its answer. The fuse cuts that list, here and nowhere else.
 -- The state and its events are a `World`: `flash` is the image with its units. `do` joins operations.
-use Rattle.std.specs.Prelude.{Bool, true, false, List, [], ◌∷◌, ◌++◌, ℕ, zero, suc, ◌+◌, ◌-◌, leb}
+use Rattle.std.specs.Prelude.{Bool, true, false, List, [], ◌∷◌, ◌++◌, ℕ, zero, suc, ◌-◌, leb}
 use Rattle.medium.specs.declared.fuse.Fuse.{Fuse}
 use Rattle.medium.specs.declared.fuse.Fuse.TheVariants.{Absent, Units}
 use Rattle.medium.specs.declared.fuse.Stored.{Stored}

@@ -1,7 +1,7 @@
 -- A read into the first bytes of a lent buffer.
 use mathlib.Core.Path.{◌≡◌, refl}
 use mathlib.Core.List.{List, ◌++◌}
-use Prim.Native.Nat.{ℕ, ◌+◌, min}
+use Prim.Native.Nat.{ℕ, min}
 use lib.ListN.{length, take, drop, take-append-drop}
 use Rattle.medium.specs.declared.geometry.Geometry.{Geometry}
 use Rattle.medium.specs.Operation.{done, refused, and_then}

@@ -1,5 +1,5 @@
 -- The strict mark at objects: it changes no answer that is read off the image, and a store of a state or a size it can only stop.
-use mathlib.Core.Path.{◌≡◌, refl, ap, ◌∙◌}
+use mathlib.Core.Path.{◌≡◌, refl}
 use mathlib.Core.List.{List, ◌∷◌, []}
 use mathlib.Core.Bool.{Bool, true, false}
 use Prim.Native.Nat.{ℕ, zero, suc, ◌+◌}
@@ -8,10 +8,9 @@ use lib.Dec.{leb, ltb, eqb}
 use Rattle.medium.specs.declared.geometry.Geometry.{Geometry}
 use Rattle.medium.specs.Granularity.{pick, size_at, header}
 use Rattle.medium.specs.Geometry.{check_of}
-use Rattle.medium.specs.Operation.{flash, done, refused, Answer, and_then, or_refuse, Op, ◌>>=◌, ◌>>◌, ask, give, refuse, test}
-use Rattle.medium.specs.Medium.{read_at, write}
+use Rattle.medium.specs.Operation.{flash, done, refused, Answer, and_then, or_refuse}
 use Rattle.medium.specs.Marked.{Fresh, UnderMark, with_strict, Beside}
-use Rattle.medium.proofs.Marked.{ask_under, kept_under, test_under, bind_under, pick_under, admit_same, read_same, write_under}
+use Rattle.medium.proofs.Marked.{kept_under, test_under, bind_under, pick_under, admit_same, read_same, write_under}
 use Rattle.objects.specs.declared.types.ObjectType.{ObjectType}
 use Rattle.objects.specs.declared.state.ObjectDataState.{ObjectDataState}
 use Rattle.objects.specs.declared.state.ObjectDataState.TheVariants.{Valid, Deleted}
@@ -22,13 +21,12 @@ use Rattle.objects.specs.declared.state.ObjectState.TheVariants as state
 use Rattle.objects.specs.declared.location.ObjectLocation.{ObjectLocation}
 use Rattle.objects.specs.declared.header.ObjectHeader.{ObjectHeader}
 use Rattle.objects.specs.declared.iterator.ObjectIterator.{ObjectIterator}
-use Rattle.objects.specs.declared.reader.ObjectReader.{ObjectReader}
 use Rattle.objects.specs.Numbers.{bytes}
 use Rattle.objects.specs.Types.{rank_to, mark_at, mark_byte}
-use Rattle.objects.specs.Header.{state_at, sized_at, header_at, marking, step_to, set_state, stayed, staying, update_state, sizable_of, with_size, set_payload_size}
+use Rattle.objects.specs.Header.{state_at, sized_at, header_at, marking, step_to, set_state, stayed, staying, update_state, sizable_of, set_payload_size}
 use Rattle.objects.specs.Info.{Info, found, none, info_at}
 use Rattle.objects.specs.Reader.{reader_at}
-use Rattle.objects.specs.Listing.{Met, object, free_place, block_end, start_of, next_in, next_of, at_end, Listing, list_by, list_from, listing}
+use Rattle.objects.specs.Listing.{Met, object, free_place, block_end, start_of, next_in, next_of, at_end, list_by, list_from, listing}
 
 module _ (g : Geometry) (m : ℕ) (v : Beside g m) where
   -- ---- what is read off the image

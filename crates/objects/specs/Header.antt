@@ -7,7 +7,7 @@ use Rattle.medium.specs.declared.fuse.Stored.{Stored}
 use Rattle.medium.specs.declared.fuse.Stored.TheVariants as stored
 use Rattle.medium.specs.Granularity.{pick, size_at}
 use Rattle.medium.specs.Geometry.{admit, check_of}
-use Rattle.medium.specs.Operation.{Answer, done, refused, and_then, Op, ◌>>=◌, ◌>>◌, give, refuse, test}
+use Rattle.medium.specs.Operation.{Answer, done, refused, and_then, Op, ◌>>◌, give, refuse, test}
 use Rattle.medium.specs.Medium.{read_at, write}
 use Rattle.objects.specs.declared.types.ObjectType.{ObjectType}
 use Rattle.objects.specs.declared.state.ObjectDataState.{ObjectDataState}

@@ -46,7 +46,7 @@ refuses records n = gives chip erased 0 records Absent n Absent 0 erased
 
 -- ---- two records at each cut: one counts right after its last unit
 
-abbrev cuts : List Bool
+abbrev pub cuts : List Bool
 cuts =
     gives chip erased 0 (first ++ second) Absent 0 Absent 2 (written (0x8E ∷ 0xF0 ∷ 1 ∷ 0x42 ∷ []))
     ∷ gives chip erased 0 (first ++ second) (Units 10) 0 (Units 0) 2 (written (0x8E ∷ 0xF0 ∷ 1 ∷ 0x42 ∷ []))
@@ -57,7 +57,7 @@ cuts =
 
 -- ---- each record is tested at its turn: the first is written, whatever the second is
 
-abbrev turns : List Bool
+abbrev pub turns : List Bool
 turns =
     gives chip erased 0 (first ++ (0x8C ∷ 14 ∷ 0 ∷ 1 ∷ [])) Absent 4 Absent 1 (written [])
     ∷ gives chip erased 0 (first ++ (0x8E ∷ 14 ∷ 2 ∷ 2 ∷ [])) Absent 7 Absent 1 (written [])
@@ -67,7 +67,7 @@ turns =
 
 -- ---- ranges and types: the range comes first, over numbers that do not wrap; the type is the whole number
 
-abbrev readings : List Bool
+abbrev pub readings : List Bool
 readings =
     refuses (0x8E ∷ 8 ∷ 4294967295 ∷ 2 ∷ []) 7
     ∷ refuses (0x8E ∷ 8 ∷ 4 ∷ 0 ∷ []) 7
@@ -79,7 +79,7 @@ readings =
 
 -- ---- before any store: 6, 7 for the image, 7 for the list. An empty one looks at nothing else
 
-abbrev lists : List Bool
+abbrev pub lists : List Bool
 lists =
     refuses (first ++ (0x8E ∷ [])) 7
     ∷ refuses (replicate 260 0) 7
@@ -88,7 +88,3 @@ lists =
     ∷ gives (blocks 0 Bit) (0 ∷ erased) 0 (0 ∷ []) Absent 6 Absent 0 (0 ∷ erased)
     ∷ gives (blocks 1 Word4) erased 0 (0x8E ∷ 13 ∷ 0 ∷ 1 ∷ []) Absent 3 Absent 0 erased
     ∷ []
-
-pub rows : all (cuts ++ turns ++ readings ++ lists) ≡ true
-unfolding geometry_ok admit ◌>>=◌ ask test putting run readable writable storable not_erased read_at write on_image type_of object_type_of mark_of pair_of marks_of state_in state_at allocatable_of payload_of payload_size_of marking set_state sizable_of set_payload_size total_of sound_of allocate may_write put_bytes write_some may_finish flush close finalize write_to records_in batchable lent_to write_record writing write_all
-rows = refl

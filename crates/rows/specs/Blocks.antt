@@ -39,7 +39,7 @@ count_is (refused k) n = false
 -- ---- the branches of a format, under each granularity
 
 -- an empty header: over erased flash a header is stored and nothing erased; over data the block is erased first
-abbrev fresh : List Bool
+abbrev pub fresh : List Bool
 fresh =
     row (Units 8) (format_block (one Word1) 0) (replicate 64 255) 0 (Units 0) (starting (0xBA ∷ 0x01 ∷ 0x45 ∷ 0xFF ∷ 0 ∷ 0 ∷ 0 ∷ 0 ∷ []))
     ∷ row (Units 3) (format_block (one Word4) 0) (replicate 64 255) 0 (Units 0) (starting (0xBA ∷ 0x01 ∷ 0x45 ∷ 0xFF ∷ 0 ∷ 0 ∷ 0 ∷ 0 ∷ []))
@@ -48,7 +48,7 @@ fresh =
     ∷ []
 
 -- an Undefined block with nothing in it stays; an Unknown one starts anew at 0, and so does an empty kind with an erase count
-abbrev others : List Bool
+abbrev pub others : List Bool
 others =
     row (Units 0) (format_block (one Bit) 0) (starting (0xBA ∷ 0x01 ∷ 0x44 ∷ 0xFF ∷ 7 ∷ 0 ∷ 0 ∷ 0 ∷ [])) 0 (Units 0) (starting (0xBA ∷ 0x01 ∷ 0x44 ∷ 0xFF ∷ 7 ∷ 0 ∷ 0 ∷ 0 ∷ []))
     ∷ row Absent (format_block (one Bit) 0) (starting (0xBA ∷ 0x01 ∷ 0x44 ∷ 0xFF ∷ 7 ∷ 0 ∷ 0 ∷ 0 ∷ 1 ∷ [])) 0 Absent (starting (0xBA ∷ 0x01 ∷ 0x44 ∷ 0xFF ∷ 8 ∷ 0 ∷ 0 ∷ 0 ∷ []))
@@ -63,7 +63,7 @@ others =
 abbrev held : List ℕ → List ℕ
 held bs = starting ((0xBA ∷ 0x01 ∷ 0x44 ∷ 0xAA ∷ 3 ∷ 0 ∷ 0 ∷ 0 ∷ []) ++ bs)
 
-abbrev scans : List Bool
+abbrev pub scans : List Bool
 scans =
     same (scanned (scan_block (one Bit) 0 (held (0x8E ∷ 0xF0 ∷ 3 ∷ 0x41 ∷ 0x42 ∷ 0x43 ∷ [])))) (3 ∷ 3 ∷ 14 ∷ 1 ∷ [])
     ∷ same (scanned (scan_block (one Bit) 0 (replicate 64 255))) (1 ∷ [])
@@ -76,7 +76,3 @@ scans =
     ∷ count_is (calculate_freeable_space (one Bit) 0 (held (0x8E ∷ 0xF0 ∷ 3 ∷ 0x41 ∷ 0x42 ∷ 0x43 ∷ []))) 50
     ∷ eqb (number_of (calculate_freeable_space (one Bit) 0 (held (0x8E ∷ 0xF0 ∷ 60 ∷ [])))) 9
     ∷ []
-
-pub rows : all (fresh ++ others ++ scans) ≡ true
-unfolding geometry_ok admit ◌>>=◌ ask test putting run readable writable storable not_erased erasable read_at write erase type_of mark_of pair_of marks_of state_in state_at sized_at header_at payload_of info_at total_of next_of list_from listing header_bytes write_header padded marked blank kind_of_type named_kind kind_in block_header_at data_empty_at again plan_known plan_of plan_at labelling renewing format_block format_from format_storage scan_unknown scan_block calculate_freeable_space
-rows = refl

@@ -52,7 +52,7 @@ record4 a b c d = a ∷ b ∷ c ∷ d ∷ []
 
 -- ---- row 13
 
-abbrev thirteen : List Bool
+abbrev pub thirteen : List Bool
 thirteen =
     stays (collect (one Bit)) (data_block 0x44 []) (record4 1 0 8 1) Absent 2
     ∷ stays (delete_invalid_objects (one Bit)) erased (record4 0 0 0 1) Absent 0
@@ -63,7 +63,7 @@ thirteen =
 
 -- ---- refusals before any step
 
-abbrev impossible : List Bool
+abbrev pub impossible : List Bool
 impossible =
     stays (collect (two Bit)) (data_block 0x44 [] ++ data_block 0x44 []) (record4 3 0 8 1) Absent 7
     ∷ stays (collect (two Bit)) (data_block 0x44 [] ++ data_block 0x44 []) (record4 3 0 8 1 ++ record4 5 0 8 1) Absent 4
@@ -73,7 +73,7 @@ impossible =
 
 -- ---- the last erase count: 9 at any fuse, what a format would refuse before that, and 2 for an Empty kind before both
 
-abbrev last : List Bool
+abbrev pub last : List Bool
 last =
     stays (collect (one Bit)) (data_block 0x44 []) (record4 3 4294967295 8 1) Absent 9
     ∷ stays (collect (one Bit)) (data_block 0x44 []) (record4 3 4294967295 8 1) (Units 0) 9
@@ -83,7 +83,7 @@ last =
 
 -- ---- an Undefined block with nothing in it: nothing is stored, and the record's count is raised all the same
 
-abbrev raised : List Bool
+abbrev pub raised : List Bool
 raised =
     passed (collect (one Bit)) (undefined 7) (record4 4 7 8 1) (Units 0) 0 (Units 0) (undefined 7) (record4 4 8 8 1)
     ∷ stays (collect (one Bit)) (undefined 7) (record4 4 7 61 1) (Units 0) 0
@@ -91,7 +91,7 @@ raised =
 
 -- ---- an unfinished object under Word(1): the marks FF 00 cannot be read any more
 
-abbrev broken : List Bool
+abbrev pub broken : List Bool
 broken =
     passed (collect (one Word1)) (data_block 0x45 (0x8E ∷ [])) (record4 3 0 12 0) Absent 2 Absent (data_block 0x45 (0x8E ∷ 0xFF ∷ 0x00 ∷ 0x00 ∷ [])) (record4 3 0 12 1)
     ∷ passed (collect (one Word1)) (data_block 0x45 (0x8E ∷ 0x00 ∷ 0xFF ∷ 0x00 ∷ 0x8E ∷ [])) (record4 3 0 16 0) Absent 0 Absent after (record4 3 0 16 1)
@@ -106,7 +106,7 @@ broken =
 abbrev unfinished : List ℕ
 unfinished = data_block 0x44 (0x8E ∷ 0xFF ∷ 0xFF ∷ 0x41 ∷ [])
 
-abbrev cuts : List Bool
+abbrev pub cuts : List Bool
 cuts =
     passed (collect (one Bit)) (data_block 0x44 (0x8E ∷ [])) (record4 3 0 11 0) (Units 0) 8 (Units 0) (data_block 0x44 (0x8E ∷ [])) (record4 3 0 11 0)
     ∷ passed (collect (one Bit)) (data_block 0x44 (0x8E ∷ [])) (record4 3 0 11 0) (Units 1) 8 (Units 0) (data_block 0x44 (0x8E ∷ 0xFF ∷ 0 ∷ [])) (record4 3 0 11 0)
@@ -118,7 +118,7 @@ cuts =
 -- ---- used bytes too small: 9; behind an object without a size the listing goes on at its payload, and is refused there or programs bytes of it; a
 -- size that agrees: the object is left, and the second pass erases it where no allocation is allowed
 
-abbrev rest : List Bool
+abbrev pub rest : List Bool
 rest =
     stays (collect (one Bit)) unfinished (record4 3 0 10 0) Absent 9
     ∷ passed (delete_invalid_objects (one Bit)) unfinished (record4 3 0 12 0) Absent 2 Absent (data_block 0x44 (0x8E ∷ 0x00 ∷ 1 ∷ 0x41 ∷ [])) (record4 3 0 12 1)
@@ -130,7 +130,7 @@ rest =
 
 -- ---- the second pass lists a block before it looks at the record's kind
 
-abbrev listed_first : List Bool
+abbrev pub listed_first : List Bool
 listed_first =
     stays (erase_invalid_finished_blocks (one Bit)) erased (record4 0 0 0 0) Absent 0
     ∷ stays (erase_invalid_finished_blocks (one Bit)) unfinished (record4 0 0 12 0) Absent 2
@@ -138,7 +138,7 @@ listed_first =
 
 -- ---- "It skips blocks whose used bytes are at least block size minus object header": 61 of 64, however little of it is in use
 
-abbrev full : List Bool
+abbrev pub full : List Bool
 full =
     stays (erase_full_finished_blocks (one Bit)) (deleted 50) (record4 3 0 61 1) Absent 0
     ∷ passed (erase_full_finished_blocks (one Bit)) (deleted 49) (record4 3 0 60 1) Absent 0 Absent (undefined 1) (record4 4 1 8 1)
@@ -150,7 +150,7 @@ full =
 -- ---- a whole collection may format a block in which the listing showed a finished object before it: the first pass gives the unfinished
 -- object in front of it a size that reaches over it
 
-abbrev swallowed : List Bool
+abbrev pub swallowed : List Bool
 swallowed =
     same (scanned (scan_block (one Bit) 0 before)) (3 ∷ 0 ∷ 14 ∷ 1 ∷ [])
     ∷ passed (delete_invalid_objects (one Bit)) before (record4 3 0 14 1) Absent 0 Absent (data_block 0x44 (0x8E ∷ 0x00 ∷ 3 ∷ 0x8E ∷ 0xF0 ∷ 0 ∷ [])) (record4 3 0 14 1)
@@ -163,7 +163,7 @@ swallowed =
 -- ---- a finished object that runs past the end of its block is kept as far as the block goes: the third pass formats the next one, and
 -- with it the object's last byte, the type of block 1
 
-abbrev overrun : List Bool
+abbrev pub overrun : List Bool
 overrun =
     same (scanned (scan_block (two Bit) 0 (long ++ data_block 0x44 []))) (3 ∷ 0 ∷ 68 ∷ 1 ∷ [])
     ∷ passed (erase_full_finished_blocks (two Bit)) (long ++ data_block 0x44 []) (record4 3 0 68 1 ++ record4 3 0 8 1) Absent 0 Absent
@@ -173,7 +173,3 @@ overrun =
   where
     long : List ℕ
     long = data_block 0x44 (0x8E ∷ 0xF0 ∷ 57 ∷ [])
-
-pub rows : all (thirteen ++ impossible ++ last ++ raised ++ broken ++ cuts ++ rest ++ listed_first ++ full ++ swallowed ++ overrun) ≡ true
-unfolding geometry_ok admit ◌>>=◌ ask test putting run readable writable storable not_erased erasable read_at write erase type_of mark_of pair_of marks_of state_in state_at sized_at header_at payload_size_of payload_of marking set_state staying update_state sizable_of set_payload_size info_at total_of next_of list_from listing header_bytes write_header padded marked blank kind_of_type named_kind kind_in block_header_at data_empty_at again plan_known plan_of plan_at labelling format.renewing format_block kind_of info_of scan_unknown scan_block on_image record_at storing allowing possible_from collectable repair_by repairing repaired visit_one deleting delete_invalid_objects_in_block worn_out formatting renewing erasing erase_invalid_finished_block erase_full_finished_block block_step sweep pass collect
-rows = refl

@@ -64,7 +64,3 @@ table =
     ∷ eqb (count_in (aligned_of (four Word1) 19)) 19
     ∷ eqb (count_in (aligned_of (sized 257) 19)) 6
     ∷ []
-
-pub rows : all table ≡ true
-unfolding geometry_ok admit fit_of ask putting run readable writable storable not_erased erasable aligned_of read_at write erase
-rows = refl

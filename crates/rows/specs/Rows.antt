@@ -37,7 +37,7 @@ use Rattle.moving.specs.Moving.{source_at, chunk, copying, copy_object, move_obj
 abbrev place : ℕ → ℕ → ObjectLocation
 place b o = record { block = b; offset = o }
 
-abbrev blank : List ℕ
+abbrev pub blank : List ℕ
 blank = replicate 1024 255
 
 -- "Obj" is FileData of chunks 41 42 and 43
@@ -141,7 +141,7 @@ formatted = headed (0xBA ∷ 0x01 ∷ 0x44 ∷ 0xFF ∷ 0xFF ∷ 0xFF ∷ 0xFF �
 abbrev typed : ℕ → List ℕ
 typed t = headed (0xBA ∷ 0x01 ∷ 0x44 ∷ t ∷ 0 ∷ 0 ∷ 0 ∷ 0 ∷ [])
 
-abbrev kind_in : Answer BlockHeader → ℕ
+abbrev pub kind_in : Answer BlockHeader → ℕ
 kind_in (done h) = kind_number h.kind
 kind_in (refused n) = 9
 
@@ -212,7 +212,3 @@ table =
     -- 12. A, `write_to` at 8: 245 bytes done; 246 give 5 and byte 8 is 8E
     ∷ room 245 0 ∷ room 246 5
     ∷ []
-
-pub rows : all table ≡ true
-unfolding geometry_ok admit fit_of ◌>>=◌ ask test putting run readable writable storable not_erased read_at write type_of mark_of pair_of marks_of state_in state_at sized_at header_at payload_size_of payload_of allocatable_of marking set_state staying update_state sizable_of set_payload_size info_at total_of reader_at remaining_of left_of read_some next_of list_from listing sound_of allocate may_write put_bytes write_some may_finish flush close finalize delete write_to source_at chunk copying copy_object move_object erasable erase header_bytes write_header padded marked header.blank kind_of_type named_kind header.kind_in block_header_at data_empty_at again plan_known plan_of plan_at labelling renewing format_block set_block_type
-rows = refl

@@ -113,7 +113,7 @@ lists bs b o n out = same (name_in (next_name chip (record { place = placed b o 
 -- ---- which object is found: the first by block and offset, not the one that was written last; by hash and name, not by one of them, and by all
 -- four bytes of the hash
 
-abbrev firsts : List Bool
+abbrev pub firsts : List Bool
 firsts =
     finds (store (file_a ++ file_a)) path_a 7 (0 ∷ 8 ∷ [])
     ∷ finds (store (file_b ++ file_a)) path_a 7 (0 ∷ 17 ∷ [])
@@ -126,7 +126,7 @@ firsts =
 
 -- ---- a path of 0 bytes: an empty name only, although every name begins with it
 
-abbrev empties : List Bool
+abbrev pub empties : List Bool
 empties =
     finds (store file_a) [] 7 (13 ∷ [])
     ∷ finds (store (file_a ++ file 7 16 [])) [] 7 (0 ∷ 17 ∷ [])
@@ -136,7 +136,7 @@ empties =
 -- ---- which objects are looked at: the Finalized ones of Metadata blocks, not only those that say FileMetadata; none of a Data block, whatever it
 -- has; one with a payload too short for its name, too
 
-abbrev looked : List Bool
+abbrev pub looked : List Bool
 looked =
     finds (store (object 0x8F 0x00 7 8 [])) path_a 7 (13 ∷ [])
     ∷ finds (store (object 0x8F 0x00 7 8 [] ++ file_a)) path_a 7 (0 ∷ 17 ∷ [])
@@ -150,7 +150,7 @@ looked =
 -- ---- what is refused on the way ends a lookup, and is not passed over; but bytes behind the file, the name of another hash, and the far end of a
 -- name that differs in its first 16 bytes are never come to
 
-abbrev refusals : List Bool
+abbrev pub refusals : List Bool
 refusals =
     finds (store (file_a ++ (0x8C ∷ []))) path_a 7 (0 ∷ 8 ∷ [])
     ∷ finds (store (file_a ++ (0x8C ∷ []))) path_b 7 (2 ∷ [])
@@ -172,7 +172,7 @@ begun bs = block 0x55 ((0x8F ∷ 0x00 ∷ 44 ∷ replicate 44 0) ++ (0x8F ∷ 0x
 abbrev original : List ℕ → List ℕ
 original hash = block 0x55 ((0x8D ∷ 0xF0 ∷ 1 ∷ 0x41 ∷ []) ++ (0x8F ∷ 0xF0 ∷ 6 ∷ hash) ++ (1 ∷ 8 ∷ []))
 
-abbrev phantoms : List Bool
+abbrev pub phantoms : List Bool
 phantoms =
     finds (begun [] ++ original (0x8E ∷ 0xF0 ∷ 0x00 ∷ 7 ∷ [])) path_a 0x0700F08E (1 ∷ 12 ∷ [])
     ∷ finds (begun (0x8E ∷ 0xF0 ∷ 0x00 ∷ []) ++ original (0x8E ∷ 0xF0 ∷ 0x00 ∷ 7 ∷ [])) path_a 0x0700F08E (3 ∷ [])
@@ -183,7 +183,7 @@ phantoms =
 -- ---- a read joins payloads from a position on: it is taken off once, not in each object, and a place that comes again is read again; behind what
 -- is read the buffer stays as it was, and nothing is read at the end. A Deleted metadata object is read where it is not found
 
-abbrev joins : List Bool
+abbrev pub joins : List Bool
 joins =
     reads (file 7 8 (23 ∷ 28 ∷ [])) 0 7 0 (0x61 ∷ 0x62 ∷ 0x63 ∷ 0x64 ∷ 0x65 ∷ 0x2E ∷ 0x2E ∷ [])
     ∷ reads (file 7 8 (23 ∷ 28 ∷ [])) 1 3 0 (0x62 ∷ 0x63 ∷ 0x64 ∷ [])
@@ -198,7 +198,7 @@ joins =
 -- ---- what a read refuses: what it comes to, before a byte is copied, so that the first object's bytes are not in the buffer. One that is full asks
 -- for nothing more, also one of 0 bytes; an object that is skipped is opened, and not read; a size that was never stored is no list of places
 
-abbrev stops : List Bool
+abbrev pub stops : List Bool
 stops =
     reads (file 7 8 (23 ∷ 41 ∷ [])) 0 22 0 (0x61 ∷ 0x62 ∷ replicate 20 0x4E)
     ∷ reads (file 7 8 (23 ∷ 41 ∷ [])) 0 23 3 (replicate 23 0x2E)
@@ -216,7 +216,7 @@ stops =
 -- ---- the list of names: its end is done with none, not 13; a refusal gives no place to go on from, so that it is not passed over; a place in another
 -- block or past the store is the end, and not 3
 
-abbrev names : List Bool
+abbrev pub names : List Bool
 names =
     lists (file_a ++ file_b) 0 8 1 (1 ∷ 0x41 ∷ 0 ∷ 8 ∷ 0 ∷ 17 ∷ [])
     ∷ lists (file_a ++ file_b) 0 17 1 (1 ∷ 0x42 ∷ 0 ∷ 17 ∷ 0 ∷ 26 ∷ [])
@@ -231,7 +231,3 @@ names =
     ∷ lists file_a 1 8 1 []
     ∷ lists file_a 4294967295 0 1 []
     ∷ []
-
-pub rows : all (firsts ++ empties ++ looked ++ refusals ++ phantoms ++ joins ++ stops ++ names) ≡ true
-unfolding geometry_ok admit readable read_at type_of mark_of pair_of marks_of state_in state_at sized_at header_at payload_size_of payload_of info_at total_of read_payload equal reader_at number_at location_at read_metadata metadata_at listable next_location next_of list_from padded marked blank kind_of_type named_kind kind_in block_header_at open_tour is_of open_of blocks_tour tour_from next_visit same_from is_name is_named lookup places_from gather read_file sizes file_size name_at name_of next_name
-rows = refl

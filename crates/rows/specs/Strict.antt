@@ -56,7 +56,7 @@ refuses n o img = all (row Absent o img n Absent img ∷ row (Units 9) o img n (
 abbrev five : List ℕ
 five = 0x11 ∷ 0x22 ∷ 0x33 ∷ 0x44 ∷ 0x55 ∷ []
 
-abbrev stores : List Bool
+abbrev pub stores : List Bool
 stores =
     refuses 10 (write (chip 1 Word1) 0 8 (0x41 ∷ [])) (holding 64 8 (0x7F ∷ []))
     ∷ refuses 10 (write (chip 1 Word4) 0 8 (0x41 ∷ [])) (holding 64 10 (0x7F ∷ []))
@@ -83,7 +83,7 @@ data_header = 0xBA ∷ 0x01 ∷ 0x45 ∷ 0xAA ∷ 0 ∷ 0 ∷ 0 ∷ 0 ∷ []
 abbrev wide_header : ℕ → ℕ → List ℕ
 wide_header n t = 0xBA ∷ 0x01 ∷ 0x45 ∷ 0xFF ∷ n ∷ 0 ∷ 0 ∷ 0 ∷ t ∷ 0xFF ∷ 0xFF ∷ 0xFF ∷ []
 
-abbrev types : List Bool
+abbrev pub types : List Bool
 types =
     refuses 10 (set_block_type (chip 1 Word1) 0 Metadata) (holding 64 0 data_header)
     ∷ refuses 10 (set_block_type (chip 1 Word4) 0 Metadata) (holding 64 0 (wide_header 0 0xAA))
@@ -112,7 +112,7 @@ held n = record { state = comp.Allocated FileData Valid; size = n; location = pl
 abbrev begun : ObjectHeader
 begun = record { state = comp.Allocated FileData Untrusted; size = 255; location = place 0 12 }
 
-abbrev objects : List Bool
+abbrev pub objects : List Bool
 objects =
     refuses 10 (allocate (chip 1 Word1) (place 0 8) FileData) (holding 64 8 (0x8E ∷ []))
     ∷ refuses 10 (allocate (chip 1 Word4) (place 0 12) FileData) (holding 64 13 (0x7F ∷ []))
@@ -129,7 +129,7 @@ tailed = record { object = begun; cursor = 0; tail = 0x41 ∷ 0x42 ∷ 0x43 ∷ 
 abbrev more : List ℕ
 more = 0x44 ∷ 0x45 ∷ 0x46 ∷ 0x47 ∷ 0x48 ∷ []
 
-abbrev tails : List Bool
+abbrev pub tails : List Bool
 tails =
     row (Units 9) (write_some (chip 1 Word4) tailed more) (holding 64 32 (0x7F ∷ [])) 10 (Units 8) (holding 64 28 (0x41 ∷ 0x42 ∷ 0x43 ∷ 0x44 ∷ 0x7F ∷ []))
     ∷ row (Units 9) (write_some (blocks 1 Word4) tailed more) (holding 64 32 (0x7F ∷ [])) 0 (Units 7) (holding 64 28 (0x41 ∷ 0x42 ∷ 0x43 ∷ 0x44 ∷ 0x45 ∷ 0x46 ∷ 0x47 ∷ 0x48 ∷ []))
@@ -146,7 +146,7 @@ original delete = holding 64 12 (wide 0 delete (2 ∷ 0xFF ∷ 0xFF ∷ 0xFF ∷
 abbrev moving : Op ObjectHeader
 moving = move_object (chip 2 Word4) (held 2) (place 1 12)
 
-abbrev moves : List Bool
+abbrev pub moves : List Bool
 moves =
     row (Units 9) moving (original free ++ blank_block) 0 (Units 4) (original (0 ∷ 0xFF ∷ 0xFF ∷ 0xFF ∷ []) ++ original free)
     ∷ row (Units 3) moving (original spoilt ++ blank_block) 8 (Units 0) (original spoilt ++ holding 64 12 (wide 0xFF free (2 ∷ 0xFF ∷ 0xFF ∷ 0xFF ∷ 0x41 ∷ 0x42 ∷ [])))
@@ -172,7 +172,7 @@ abc = 0x41 ∷ 0x42 ∷ 0x43 ∷ []
 abbrev written : List ℕ → List ℕ
 written bs = holding 64 8 ((0x8E ∷ 0x00 ∷ 0xFF ∷ 3 ∷ 0x41 ∷ 0x42 ∷ 0x43 ∷ []) ++ bs)
 
-abbrev others : List Bool
+abbrev pub others : List Bool
 others =
     ends (run (Units 9) (delete_invalid_objects (chip 1 Word4)) (both (unfinished free) (3 ∷ 0 ∷ 28 ∷ 0 ∷ []))) 10 (Units 8)
     (λ s. same s.image (unfinished (0 ∷ 0xFF ∷ 0xFF ∷ 0xFF ∷ [])) && same s.table (3 ∷ 0 ∷ 28 ∷ 0 ∷ []))
@@ -181,7 +181,3 @@ others =
     ∷ ends (run (Units 9) (twins.sweep (chip 1 Word1)) (both blank_block (0 ∷ 0 ∷ []))) 14 (Units 9) (λ s. same s.image blank_block && same s.table (0 ∷ 0 ∷ []))
     ∷ ends (run (Units 9) (twins.sweep (blocks 1 Word1)) (both blank_block (0 ∷ 0 ∷ []))) 0 (Units 9) (λ s. same s.image blank_block)
     ∷ []
-
-pub rows : all (stores ++ types ++ objects ++ tails ++ moves ++ others) ≡ true
-unfolding geometry_ok admit ◌>>=◌ ask test putting run readable writable storable not_erased erasable read_at write erase on_image type_of object_type_of mark_of pair_of marks_of state_in state_at sized_at header_at payload_size_of payload_of allocatable_of marking set_state staying update_state sizable_of set_payload_size info_at total_of reader_at remaining_of left_of read_some next_of list_from listing header_bytes write_header padded marked blank kind_of_type named_kind kind_in block_header_at data_empty_at again plan_known plan_of plan_at labelling renewing format_block set_block_type kind_of info_of sound_of allocate may_write put_bytes write_some may_finish flush close finalize delete write_to source_at chunk copying copy_object move_object record_at storing allowing possible_from collectable repair_by repairing repaired visit_one deleting delete_invalid_objects_in_block block_step sweep pass records_in batchable lent_to write_record writing write_all open_tour is_of open_of blocks_tour tour_from listings sweepable twins.deleting twins.deleting_twins twins.deleting_unreferred twins.sweep plan.is_twin plan.twins plan.is_referred plan.unreferred
-rows = refl

@@ -82,7 +82,7 @@ refuses img n = gives img Absent n Absent 0 0 img
 
 -- ---- of twins the first in lookup order stays, by block and then by offset, however many there are; and it is the first of its like, not of all
 
-abbrev firsts : List Bool
+abbrev pub firsts : List Bool
 firsts =
     leaves (store (file_a fin ++ file_b fin) all_held []) 0 0 (store (file_a fin ++ file_b fin) all_held [])
     ∷ leaves (store (file_a fin ++ file_a fin ++ file_b fin) all_held (file_a fin)) 2 0 (store (file_a fin ++ file_a del ++ file_b fin) all_held (file_a del))
@@ -93,7 +93,7 @@ firsts =
 -- ---- no twins: the same hash and name with other data, or with more of it; another type; a payload that another one begins with; two data objects
 -- with the same bytes
 
-abbrev apart : List Bool
+abbrev pub apart : List Bool
 apart =
     leaves (store (object 0x8F fin 8 (12 ∷ []) ++ object 0x8F fin 8 (21 ∷ []) ++ object 0x8F fin 17 []) all_held []) 0 0
     (store (object 0x8F fin 8 (12 ∷ []) ++ object 0x8F fin 8 (21 ∷ []) ++ object 0x8F fin 17 []) all_held [])
@@ -103,7 +103,7 @@ apart =
 
 -- ---- what nothing refers to goes, names and data; what a Deleted street alone refers to does not count as referred to; what two refer to stays
 
-abbrev loose : List Bool
+abbrev pub loose : List Bool
 loose =
     leaves (store (file_a fin) all_held []) 0 2 (store (file_a fin) (held fin fin del del) [])
     ∷ leaves (store (file_a fin ++ file_b del) all_held []) 0 2 (store (file_a fin ++ file_b del) (held fin fin del del) [])
@@ -117,7 +117,7 @@ loose =
 abbrev twice : List ℕ
 twice = store (file_a fin ++ file_a fin) all_held (file_a fin)
 
-abbrev cuts : List Bool
+abbrev pub cuts : List Bool
 cuts =
     gives twice Absent 0 Absent 2 2 (store (file_a fin ++ file_a del) (held fin fin del del) (file_a del))
     ∷ gives twice (Units 0) 8 (Units 0) 0 0 twice
@@ -132,7 +132,7 @@ cuts =
 -- ---- 14, with no twin deleted before it: a size that was never stored, a payload too short or with part of a location, one that runs past its block;
 -- a name or data that is Deleted, a place inside an object, one of a Metadata block, one outside the store
 
-abbrev danglings : List Bool
+abbrev pub danglings : List Bool
 danglings =
     refuses (store (file_a fin ++ file_a fin ++ (0x8F ∷ fin ∷ 0xFF ∷ [])) all_held []) 14
     ∷ refuses (store (file_a fin ++ file_a fin ++ (0x8F ∷ fin ∷ 5 ∷ 7 ∷ 0 ∷ 0 ∷ 0 ∷ 1 ∷ [])) all_held []) 14
@@ -147,7 +147,7 @@ danglings =
 
 -- ---- a listing comes first, also that of a later block; blocks of other kinds are not looked at, whatever they hold; 7 and 6 before all
 
-abbrev listed : List Bool
+abbrev pub listed : List Bool
 listed =
     refuses (store (object 0x8F fin 9 []) all_held (0x8C ∷ [])) 2
     ∷ refuses (store (object 0x8F fin 9 []) (block 0xAA (0x8C ∷ [])) []) 2
@@ -170,7 +170,7 @@ place_in (refused n) = n ∷ []
 abbrev finds : List ℕ → ℕ → ℕ → Bool
 finds img b o = same (place_in (lookup chip (0x41 ∷ []) 7 img)) (b ∷ o ∷ [])
 
-abbrev one_name : List Bool
+abbrev pub one_name : List Bool
 one_name =
     finds (store [] all_held (file_a fin ++ other fin)) 2 8
     ∷ leaves (store (other fin) all_held (file_a fin ++ other fin)) 1 1 (store (other fin) (held fin fin del fin) (file_a fin ++ other del))
@@ -183,7 +183,7 @@ one_name =
 abbrev with : List ℕ → ℕ → Fuse → ℕ → Fuse → ℕ → ℕ → List ℕ → Bool
 with img words f n left ts us after = ends (run f (sweep_with chip words) (both img (0 ∷ 0 ∷ []))) n left (λ s. same s.image after && same s.table (ts ∷ us ∷ []))
 
-abbrev lent : List Bool
+abbrev pub lent : List Bool
 lent =
     with twice 192 Absent 0 Absent 2 2 (store (file_a fin ++ file_a del) (held fin fin del del) (file_a del))
     ∷ with twice 192 (Units 3) 8 (Units 0) 2 1 (store (file_a fin ++ file_a del) (held fin fin del fin) (file_a del))
@@ -195,7 +195,3 @@ lent =
     ∷ same (words_after (words_fit chip 192 3) (5 ∷ 6 ∷ 7 ∷ [])) (5 ∷ 6 ∷ 7 ∷ [])
     ∷ same (words_after (words_fit chip 192 192) (5 ∷ 6 ∷ 7 ∷ [])) (0 ∷ 0 ∷ 0 ∷ [])
     ∷ []
-
-pub rows : all (firsts ++ apart ++ loose ++ cuts ++ danglings ++ listed ++ one_name ++ lent) ≡ true
-unfolding geometry_ok admit ◌>>=◌ ask test putting run readable writable storable not_erased read_at write on_image type_of mark_of pair_of marks_of state_in state_at sized_at header_at payload_size_of payload_of marking set_state update_state info_at total_of payload_readable read_payload equal same_payload reader_at number_at location_at read_metadata listable next_location next_of list_from padded marked blank kind_of_type named_kind kind_in block_header_at open_tour is_of open_of blocks_tour tour_from same_from is_name is_named lookup places_from locations_of is_whole is_listed is_sound listings sweepable is_twin twins is_referred unreferred deleting deleting_twins deleting_unreferred sweep sweep_with
-rows = refl

@@ -1,11 +1,11 @@
 -- The strict mark at the writer: each of its calls it can only stop.
-use mathlib.Core.Path.{◌≡◌, refl, ap}
+use mathlib.Core.Path.{◌≡◌}
 use mathlib.Core.List.{List, [], ◌∷◌}
 use Prim.Native.Nat.{ℕ, zero, suc, ◌+◌, ◌-◌}
 use lib.ListN.{length, take}
-use lib.Dec.{eqb, leb}
+use lib.Dec.{eqb}
 use Rattle.medium.specs.declared.geometry.Geometry.{Geometry}
-use Rattle.medium.specs.Granularity.{pick, width_of}
+use Rattle.medium.specs.Granularity.{width_of}
 use Rattle.medium.specs.Operation.{flash}
 use Rattle.medium.specs.Medium.{part}
 use Rattle.medium.specs.Marked.{Fresh, UnderMark, with_strict, Beside}
@@ -14,12 +14,10 @@ use Rattle.objects.specs.declared.types.ObjectType.{ObjectType}
 use Rattle.objects.specs.declared.state.ObjectDataState.{ObjectDataState}
 use Rattle.objects.specs.declared.state.ObjectDataState.TheVariants.{Valid, Deleted}
 use Rattle.objects.specs.declared.location.ObjectLocation.{ObjectLocation}
-use Rattle.objects.specs.declared.header.ObjectHeader.{ObjectHeader}
 use Rattle.objects.specs.Types.{type_byte, rank_of}
-use Rattle.objects.specs.Header.{state_at, allocatable_of}
 use Rattle.objects.proofs.Strict.{state_same, set_state_under, set_payload_size_under}
 use Rattle.writer.specs.declared.writer.ObjectWriter.{ObjectWriter}
-use Rattle.writer.specs.Writer.{data_at, possible, sound_of, allocate, may_write, pending_of, put_bytes, put_pending, whole_of, filling_of, write_some, may_finish, flush, close, finalize, deleting, delete, write_to}
+use Rattle.writer.specs.Writer.{data_at, sound_of, allocate, may_write, pending_of, put_bytes, whole_of, filling_of, write_some, may_finish, flush, close, finalize, deleting, delete, write_to}
 
 module _ (g : Geometry) (m : ℕ) (v : Beside g m) where
   -- ---- its tests

@@ -23,7 +23,7 @@ pub slice_bounds-fill-end : goal.slice_bounds-fill-end
 slice_bounds-fill-end c = let h = erase_part _ _ _ _ _ _ _ c.may_erase-bad.ensures c.if-bad-ne0.false c.spend-p.ensures c.granted-u.ensures in omega arith
 
 pub returns : goal.returns
-returns c = 
+returns c =
     let a = c.args in
     let at = a.block * a.g.size in
     let n = c.granted-u.result * a.g.size in

@@ -1,6 +1,6 @@
 -- `medium::fill` meets its contract. After i turns the part has its first i bytes erased.
 use mathlib.Core.Path.{◌≡◌, refl}
-use Prim.Native.Nat.{◌-◌, ◌<◌}
+use Prim.Native.Nat.{◌<◌}
 use native.Mathlib.Omega.{arith}
 use lib.ListN.{length, length-set}
 use borrow.Author.Rules.{rules}
@@ -20,11 +20,11 @@ pub loop-i-smaller : goal.loop-i-smaller
 loop-i-smaller c = omega arith
 
 pub loop-i-preserved : goal.loop-i-preserved
-loop-i-preserved c = 
+loop-i-preserved c =
     let h : c.loop-i.i < length c.args.part.now = omega arith in
     (omega arith, simp length-set (omega arith), blank_more _ _ _ h c.loop-i.invariant.2)
 
 pub returns : goal.returns
-returns c = 
+returns c =
     let e : c.loop-i.i ≡ length c.args.part.now = omega arith in
     cc

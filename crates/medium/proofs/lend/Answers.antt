@@ -21,7 +21,7 @@ pub slice_bounds-result-end-2 : goal.slice_bounds-result-end-2
 slice_bounds-result-end-2 c = let h = reached _ _ _ _ _ _ c.reach.ensures c.if-reach-ne0.false in omega (arith, h.ends)
 
 pub returns : goal.returns
-returns c = 
+returns c =
     let at = c.args.block * c.args.g.size + c.args.offset in
     let e : at + c.args.n - at ≡ c.args.n = omega arith in
     rw (read_part _ _ _ _ _ _ c.reach.ensures c.if-reach-ne0.false, e)

@@ -39,7 +39,7 @@ pub slice_bounds-meets-end : goal.slice_bounds-meets-end
 slice_bounds-meets-end c = let h = write_at _ _ _ _ _ _ c.may_write-bad.ensures c.if-bad-ne0.false in let n : c.units.result * c.width-w.result ≡ align_of (width_of c.args.g.granularity) (length c.args.src.now) = rw (c.units.ensures, c.width-w.ensures) refl in let e : c.args.block * c.args.g.size + c.args.offset + c.units.result * c.width-w.result ≤ length c.args.image.now = omega (arith, h.ends) in search rules
 
 pub meets-requires : goal.meets-requires
-meets-requires c = 
+meets-requires c =
     let k : c.args.block * c.args.g.size + c.args.offset + c.units.result * c.width-w.result - (c.args.block * c.args.g.size + c.args.offset) ≡ c.units.result * c.width-w.result = omega arith in
     let n : c.units.result * c.width-w.result ≡ align_of c.width-w.result (length c.args.src.now) = rw c.units.ensures refl in
     let w = width_is c.args.g.granularity in
@@ -48,13 +48,13 @@ meets-requires c =
     record { le_w = omega (arith, c.width-w.ensures); len = rw k (length_part (c.args.block * c.args.g.size + c.args.offset) (c.units.result * c.width-w.result) c.args.image.now (omega (arith, h.ends)) ∙ n) }
 
 pub returns-then-meets : goal.returns-then-meets
-returns-then-meets c = 
+returns-then-meets c =
     let k : c.args.block * c.args.g.size + c.args.offset + c.units.result * c.width-w.result - (c.args.block * c.args.g.size + c.args.offset) ≡ c.units.result * c.width-w.result = omega arith in
     let n : c.units.result * c.width-w.result ≡ align_of c.width-w.result (length c.args.src.now) = rw c.units.ensures refl in
     sym (storable_looked _ _ _ _ _ _ _ _ _ c.may_write-bad.ensures c.if-bad-ne0.false c.if-g-ne1.false c.width-w.ensures n (rw k at c.meets.ensures) ∙ rw c.if-meets.true)
 
 pub returns : goal.returns
-returns c = 
+returns c =
     let k : c.args.block * c.args.g.size + c.args.offset + c.units.result * c.width-w.result - (c.args.block * c.args.g.size + c.args.offset) ≡ c.units.result * c.width-w.result = omega arith in
     let n : c.units.result * c.width-w.result ≡ align_of c.width-w.result (length c.args.src.now) = rw c.units.ensures refl in
     sym (storable_looked _ _ _ _ _ _ _ _ _ c.may_write-bad.ensures c.if-bad-ne0.false c.if-g-ne1.false c.width-w.ensures n (rw k at c.meets.ensures) ∙ rw c.if-meets.false)

@@ -19,12 +19,15 @@ pub returns-then-offset-w-ne0 : goal.returns-then-offset-w-ne0
 returns-then-offset-w-ne0 c = sym (write_reached _ _ _ _ _ (reached _ _ _ _ _ _ c.reach-bad.ensures c.if-bad-ne0.false) ∙ simp (ne_eqb _ _ (rw c.width-w.ensures at c.if-offset-w-ne0.true)))
 
 pub units-requires : goal.units-requires
-units-requires c = record { le_w = (let h = reached _ _ _ _ _ _ c.reach-bad.ensures c.if-bad-ne0.false in
-    omega (arith, width_is c.args.g.granularity, c.width-w.ensures, h.inside, h.fine.sound.small)); n_bound = (let h = reached _ _ _ _ _ _ c.reach-bad.ensures c.if-bad-ne0.false in
-    omega (arith, width_is c.args.g.granularity, c.width-w.ensures, h.inside, h.fine.sound.small)) }
+units-requires c = record {
+  le_w = (let h = reached _ _ _ _ _ _ c.reach-bad.ensures c.if-bad-ne0.false in
+      omega (arith, width_is c.args.g.granularity, c.width-w.ensures, h.inside, h.fine.sound.small));
+  n_bound = (let h = reached _ _ _ _ _ _ c.reach-bad.ensures c.if-bad-ne0.false in
+      omega (arith, width_is c.args.g.granularity, c.width-w.ensures, h.inside, h.fine.sound.small));
+}
 
 pub overflow_mul-taken : goal.overflow_mul-taken
-overflow_mul-taken c = 
+overflow_mul-taken c =
     let r = reached _ _ _ _ _ _ c.reach-bad.ensures c.if-bad-ne0.false in
     let w = width_is c.args.g.granularity in
     let h = taken_le _ _ _ c.units.ensures (omega (arith, c.width-w.ensures)) in
@@ -34,14 +37,14 @@ pub overflow_sub-g : goal.overflow_sub-g
 overflow_sub-g c = omega (arith, (reached _ _ _ _ _ _ c.reach-bad.ensures c.if-bad-ne0.false).inside)
 
 pub returns-then-g-offset : goal.returns-then-g-offset
-returns-then-g-offset c = 
+returns-then-g-offset c =
     let k = width_of c.args.g.granularity in
     let u = rw (c.units.ensures, c.width-w.ensures) at c.if-g-offset.true in
     let h : c.args.g.size < c.args.offset + align_of (width_of c.args.g.granularity) c.args.n = omega arith in
     sym (write_reached _ _ _ _ _ (reached _ _ _ _ _ _ c.reach-bad.ensures c.if-bad-ne0.false) ∙ simp (lt-leb _ _ h, and-false))
 
 pub returns : goal.returns
-returns c = 
+returns c =
     let r = reached _ _ _ _ _ _ c.reach-bad.ensures c.if-bad-ne0.false in
     let u = rw (c.units.ensures, c.width-w.ensures) at c.if-g-offset.false in
     let h : c.args.offset + align_of (width_of c.args.g.granularity) c.args.n ≤ c.args.g.size = omega (arith, r.inside) in

@@ -1,6 +1,5 @@
 -- `medium::meets` meets its contract: before the unit at i none would be programmed again.
 use mathlib.Core.Path.{sym, ◌∙◌}
-use Prim.Native.Nat.{◌-◌}
 use native.Mathlib.Omega.{arith}
 use Rattle.medium.proofs.Strict.{look, look_start, look_next, look_within, look_end}
 use Rattle.medium.proofs.meets.Goals as goal

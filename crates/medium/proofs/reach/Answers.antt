@@ -18,18 +18,18 @@ returns-then-g-block c = sym (admit_pass _ _ _ _ c.check-bad.ensures c.if-bad-ne
 
 pub returns-then-size-offset : goal.returns-then-size-offset
 unfolding readable
-returns-then-size-offset c = 
+returns-then-size-offset c =
     let h : c.args.g.size < c.args.offset + c.args.n = omega arith in
     sym (admit_pass _ _ _ _ c.check-bad.ensures c.if-bad-ne0.false ∙ simp (lt-leb _ _ h, and-false))
 
 pub returns-then-size-offset-2 : goal.returns-then-size-offset-2
 unfolding readable
-returns-then-size-offset-2 c = 
+returns-then-size-offset-2 c =
     let h : c.args.g.size < c.args.offset + c.args.n = omega arith in
     sym (admit_pass _ _ _ _ c.check-bad.ensures c.if-bad-ne0.false ∙ simp (lt-leb _ _ h, and-false))
 
 pub returns : goal.returns
 unfolding readable
-returns c = 
+returns c =
     let h : c.args.offset + c.args.n ≤ c.args.g.size = omega arith in
     sym (admit_pass _ _ _ _ c.check-bad.ensures c.if-bad-ne0.false ∙ simp (lt-ltb _ _ c.if-g-block.false, le-leb _ _ h))

@@ -26,10 +26,13 @@ pub slice_bounds-copy_from_slice-end : goal.slice_bounds-copy_from_slice-end
 slice_bounds-copy_from_slice-end c = let h = read_at_lem _ _ _ _ _ _ c.reach-bad.ensures c.if-bad-ne0.false in omega arith
 
 pub returns : goal.returns
-returns c = 
+returns c =
     let a = c.args in
     let at = a.block * a.g.size + a.offset in
     let n = length a.buffer.now in
     let h = read_at_lem _ _ _ _ _ _ c.reach-bad.ensures c.if-bad-ne0.false in
-    let k : at + n - at ≡ n = omega arith in record { buffer_after = read_done _ _ _ _ _ _ _ c.reach-bad.ensures c.if-bad-ne0.false
-          (rw k at c.copy_from_slice.ensures.after); buffer_after_2 = refl }
+    let k : at + n - at ≡ n = omega arith in record {
+      buffer_after = read_done _ _ _ _ _ _ _ c.reach-bad.ensures c.if-bad-ne0.false
+          (rw k at c.copy_from_slice.ensures.after);
+      buffer_after_2 = refl;
+    }

@@ -34,7 +34,7 @@ pub slice_bounds-program-end : goal.slice_bounds-program-end
 slice_bounds-program-end c = let h = write_part _ _ _ _ _ _ _ _ _ _ _ (range_of _ _ _ _ _ _ c.may_store-bad.ensures c.if-bad-ne0.false) c.if-bad-ne0.false c.width-w.ensures c.units-wanted.ensures c.spend-p.ensures c.granted-u.ensures in omega arith
 
 pub returns : goal.returns
-returns c = 
+returns c =
     let a = c.args in
     let at = a.block * a.g.size + a.offset in
     let n = c.granted-u.result * c.width-w.result in

@@ -12,10 +12,6 @@ pub returns-in_default-a2 : goal.returns-in_default-a2
 unfolding write_copy
 returns-in_default-a2 c = rw c.in_default-a2.is (sym (on _ _ _ _ _ _ _ _ c.allocate-one.ensures.image_after c.in-Done.is ∙ stop _ _ _ _ _ _ _ _ (rw c.at.ensures.value at c.copy-two.ensures) c.in_default-a2.is))
 
--- LOST same-length-3
--- same-length-3 : tie.Need-same-length-3
--- same-length-3 c = omega (arith, c.before.before.finalize.auto.1.1.0, c.before.before.before.before.before.before.before.before.before.before.copy.auto.1.0, c.before.before.before.before.before.before.before.before.before.before.before.before.before.before.before.before.before.before.before.before.allocate.auto.1.0)
-
 pub returns : goal.returns
 unfolding write_copy
 returns c = c.finalize.ensures.image_after ∙ sym (on _ _ _ _ _ _ _ _ c.allocate-one.ensures.image_after c.in-Done.is ∙ on _ _ _ _ _ _ _ _ (rw c.at.ensures.value at c.copy-two.ensures) c.in-Done-a2.is)

@@ -1,6 +1,5 @@
 use borrow.Author.Rules.{rules}
 use mathlib.Core.Path.{refl, sym, ◌∙◌}
-use Prim.Native.Nat.{◌-◌}
 use native.Mathlib.Omega.{arith}
 use Rattle.medium.proofs.Runs.{on, stop}
 use Rattle.blocks.proofs.Formats.{format_step, format_end, storage_stop, storage_on}

@@ -1,22 +1,6 @@
 use native.Mathlib.Omega.{arith}
 use Rattle.blocks.proofs.header.count.Goals as goal
 
--- LOST cast-a
--- cast-a : tie.Need-overflow-cast-a
--- cast-a c = omega (arith, c.shared-slice-known.given 4)
-
--- LOST cast-b
--- cast-b : tie.Need-overflow-cast-b
--- cast-b c = omega (arith, c.shared-slice-known2.given 5)
-
--- LOST cast-c
--- cast-c : tie.Need-overflow-cast-c
--- cast-c c = omega (arith, c.shared-slice-known3.given 6)
-
--- LOST cast-d
--- cast-d : tie.Need-overflow-cast-d
--- cast-d c = omega (arith, c.shared-slice-known4.given 7)
-
 pub overflow_mul-result : goal.overflow_mul-result
 overflow_mul-result c = omega (arith, c.shared_slice_known-4-1.given 7)
 

@@ -1,6 +1,6 @@
 use Rattle.objects.specs.declared.iterator.ObjectIterator.{ObjectIterator}
 use mathlib.Core.Path.{◌≡◌, sym, ap, ◌∙◌}
-use Prim.Native.Nat.{◌-◌, ◌+◌}
+use Prim.Native.Nat.{◌+◌}
 use native.Mathlib.Omega.{arith}
 use Rattle.objects.specs.Info.{span_of}
 use Rattle.objects.specs.Listing.{listing}
@@ -40,7 +40,7 @@ pub loop-e-smaller : goal.loop-e-smaller
 loop-e-smaller c = let v = next_moves _ _ _ _ _ (sym (rw c.in-Object.is at c.next-n.ensures)) in omega (arith, v.forward, v.within, header_some c.args.g.granularity c.args.g.s)
 
 pub loop-e-preserved : goal.loop-e-preserved
-loop-e-preserved c = 
+loop-e-preserved c =
     let v = next_found _ _ _ _ _ (sym (rw c.in-Object.is at c.next-n.ensures)) in
     let o : c.in-Object.j.location.offset ≡ c.loop-e.i.location.offset + span_of c.args.g.granularity c.args.g.s c.in-Object.o = ap (λ (x : ObjectIterator). x.location.offset) v.then in (
       omega (arith, o, c.loop-e.invariant.0, c.freeable-deleted.ensures.value, freed_most c.args.g.granularity c.args.g.s c.in-Object.o),

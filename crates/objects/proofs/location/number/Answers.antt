@@ -15,10 +15,6 @@ overflow_sub-i c = omega arith
 pub bounds-raw-i : goal.bounds-raw-i
 bounds-raw-i c = omega arith
 
--- LOST cast-b
--- cast-b : tie.Need-overflow-cast-b invariant-loop decreases-loop
--- cast-b c = let b = (c.shared-slice-known.given (c.before.before.loop.i - 1)).fits in omega arith
-
 pub overflow_mul-n : goal.overflow_mul-n
 overflow_mul-n c = let b = (c.shared_slice_known-1.given (c.loop-i.i - 1)).fits in omega (arith, c.loop-i.invariant.2)
 
@@ -29,11 +25,11 @@ pub loop-i-smaller : goal.loop-i-smaller
 loop-i-smaller c = omega arith
 
 pub loop-i-preserved : goal.loop-i-preserved
-loop-i-preserved c = 
+loop-i-preserved c =
     let q = number_more _ _ _ c.loop-i-test.true c.loop-i.invariant.0 c.loop-i.invariant.1 in
     (omega arith, q, rw q (number_small c.args.raw.now (c.loop-i.i - 1) 4 (λ j. (c.shared_slice_known-1.given j).fits) c.requires), λ h. rw q (number_small c.args.raw.now (c.loop-i.i - 1) 3 (λ j. (c.shared_slice_known-1.given j).fits) h))
 
 pub returns : goal.returns
-returns c = 
+returns c =
     let e : c.loop-i.i ≡ 0 = omega arith in
     record { value = rw e at c.loop-i.invariant.1; upper_bound = c.loop-i.invariant.2; upper_bound_2 = c.loop-i.invariant.3 }

@@ -1,5 +1,5 @@
 use mathlib.Core.Path.{refl, sym, ◌∙◌}
-use Prim.Native.Nat.{◌-◌, ◌≤◌, ◌<◌}
+use Prim.Native.Nat.{◌≤◌, ◌<◌}
 use native.Mathlib.Omega.{arith}
 use borrow.Author.Rules.{rules}
 use lib.ListN.{length, length-set}
@@ -20,10 +20,6 @@ loop-i-smaller c = omega arith
 
 pub loop-i-preserved : goal.loop-i-preserved
 loop-i-preserved c = let h : c.loop-i.i < length c.loop-i.room = omega arith in (omega arith, simp length-set c.loop-i.invariant.1, put_more _ _ _ _ h c.loop-i.invariant.2)
-
--- LOST same_length
--- same_length : tie.Need-same-length invariant-loop decreases-loop
--- same_length c = c.before.loop.invariant.1
 
 pub returns : goal.returns
 returns c = let h : length c.loop-i.room ≤ c.loop-i.i = omega arith in sym (put_all c.loop-i.i c.loop-i.room c.loop-i.left h) ∙ c.loop-i.invariant.2

@@ -1,5 +1,4 @@
 use mathlib.Core.Path.{refl, sym, ◌∙◌}
-use Prim.Native.Nat.{◌-◌}
 use native.Mathlib.Omega.{arith}
 use Rattle.objects.proofs.Equal.{other_length, differ, step, whole}
 use Rattle.objects.proofs.payload.is_equal.Goals as goal

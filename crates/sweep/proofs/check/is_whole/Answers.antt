@@ -19,6 +19,6 @@ nonzero_rem-result c = omega (arith, (fine_of_check _ _ _ refl c.requires).sound
 
 pub returns : goal.returns
 unfolding is_whole
-returns c = 
+returns c =
     let z : 4 + (c.args.g.c + c.args.g.s) ≡ 4 + c.args.g.c + c.args.g.s = omega arith in
     rw (z, ← c.reach.ensures, c.if-reach-ne0.false, ← c.payload-n.ensures.value, le-leb (4 + c.args.g.c + c.args.g.s) c.payload-n.result (omega (arith, c.if-n-location.false)))

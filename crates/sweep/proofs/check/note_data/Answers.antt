@@ -16,7 +16,7 @@ pub loop-h-init : goal.loop-h-init
 loop-h-init c = (rw (c.new-v.ensures, c.clear.ensures, length-replicate {A = ℕ} (length c.args.words.now) 0), refl)
 
 pub returns-in_default : goal.returns-in_default
-returns-in_default c = 
+returns-in_default c =
     let e : length c.clear.new.words ≡ length c.args.words.now = ap length c.clear.ensures ∙ length-replicate {A = ℕ} (length c.args.words.now) 0 in
     sym (ap (noted c.args.g (places_in (data_in c.args.g c.args.image.now))) (sym e) ∙ c.loop-h.invariant.0 ∙ ap (λ (hs : List ObjectHeader). note_all c.args.g (places_in hs) c.loop-h.words) (rest_none _ _ _ c.requires _ _ c.next-n.ensures.goes (opened c.in_default.in_default-own.keys2)))
 

@@ -21,11 +21,11 @@ pub loop-i-smaller : goal.loop-i-smaller
 loop-i-smaller c = omega arith
 
 pub loop-i-preserved : goal.loop-i-preserved
-loop-i-preserved c = 
+loop-i-preserved c =
     let h : c.loop-i.i < length c.args.words.now = omega arith in
     (omega arith, simp length-set (omega arith), clear_more _ _ _ h c.loop-i.invariant.2)
 
 pub returns : goal.returns
-returns c = 
+returns c =
     let e : c.loop-i.i ≡ length c.args.words.now = omega arith in
     c.loop-i.invariant.2 ∙ rw e (ap (λ (l : List ℕ). replicate (length c.args.words.now) 0 ++ l) (drop_of_length-le c.args.words.now {i = length c.args.words.now} (omega arith)) ∙ append-nil _)

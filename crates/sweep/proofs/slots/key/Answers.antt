@@ -10,10 +10,6 @@ pub loop-i-init : goal.loop-i-init
 unfolding key_of
 loop-i-init c = (refl, search rules, omega arith)
 
--- LOST cast-b
--- cast-b : tie.Need-overflow-cast-b invariant-loop decreases-loop
--- cast-b c = omega (arith, (c.shared-slice-known.given c.before.before.loop.i).fits)
-
 pub overflow_add-n : goal.overflow_add-n
 overflow_add-n c = omega (arith, (c.shared_slice_known-1.given c.loop-i.i).fits)
 

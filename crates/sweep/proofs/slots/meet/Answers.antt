@@ -38,6 +38,6 @@ pub bounds-words-at-3 : goal.bounds-words-at-3
 bounds-words-at-3 c = simp length-set (omega (arith, (free_room c.args.words.now c.args.key _ (sym c.find-s.ensures ∙ c.in-Free.is))))
 
 pub returns : goal.returns
-returns c = 
+returns c =
     let e = sym c.in-Free.is ∙ c.find-s.ensures in
     record { value = e; words_after = ap (λ (s : Slot). take_by s c.args.key c.args.block c.args.words.now) e }

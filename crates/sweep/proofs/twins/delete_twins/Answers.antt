@@ -9,23 +9,11 @@ use Rattle.sweep.proofs.twins.delete_twins.Goals as goal
 pub loop-h-init : goal.loop-h-init
 loop-h-init c = rw c.new-v.ensures (twins_begin c.args.g c.args.f c.args.image.now _ c.requires.image_value (λ j. (c.slice_known-1.given j).fits) c.requires.image_value_2, refl)
 
--- LOST same_length
--- same_length : tie.Need-same-length invariant-loop decreases-loop
--- same_length c = c.before.before.before.before.loop.invariant.0.long
-
 pub returns-in_default : goal.returns-in_default
 returns-in_default c = rw c.ended_with.ensures (record { unreferred_after = sym (twins-finish _ _ _ _ _ _ _ _ _ c.loop-h.invariant.0 (rest_none _ _ _ c.loop-h.invariant.0.at.fine _ _ c.next-x.ensures.goes (opened c.in_default.in_default-own.keys2))); unreferred_value = refl })
 
 pub judge-j-requires : goal.judge-j-requires
 judge-j-requires c = record { image_value = c.loop-h.invariant.0.at.fine; image_value_2 = c.loop-h.invariant.0.end; knows = twins-known _ _ _ _ _ _ _ _ _ c.loop-h.invariant.0 _ _ (rest-on _ _ _ c.loop-h.invariant.0.at.fine _ _ _ (rw c.in-Object.is at c.next-x.ensures.goes)) }
-
--- LOST same-length-3
--- same-length-3 : tie.Need-same-length-3 invariant-loop decreases-loop
--- same-length-3 c = c.before.before.before.before.before.update-state.auto.1.1.0 ∙ c.before.before.before.before.before.before.before.before.before.before.before.before.before.before.before.before.before.before.loop.invariant.0.long
-
--- LOST same-length-4
--- same-length-4 : tie.Need-same-length-4 invariant-loop decreases-loop
--- same-length-4 c = c.before.before.before.before.before.before.before.before.before.before.judge.auto.1.1.0 ∙ c.before.before.before.before.before.before.before.before.before.before.before.before.before.before.before.before.before.before.loop.invariant.1 ∙ c.before.before.before.before.before.before.before.before.before.before.before.before.before.before.before.before.before.before.before.before.before.before.clear.auto.0
 
 pub returns-in_default-a : goal.returns-in_default-a
 returns-in_default-a c = rw c.ended_with-in_default-a.ensures (record { unreferred_after = rw c.in_default-a.is (sym (twins-stop _ _ _ _ _ _ _ _ _ c.loop-h.invariant.0 _ _ (rest-on _ _ _ c.loop-h.invariant.0.at.fine _ _ _ (rw c.in-Object.is at c.next-x.ensures.goes)) _ c.judge-j.ensures.twin_value _ _ c.judge-j.ensures.knows_2 c.if-j.true _ _ _ c.update_state-d.ensures.image_after c.in_default-a.is)); unreferred_value = refl })

@@ -7,14 +7,14 @@ use Rattle.sweep.proofs.MetKeys.{none-like, knows-met, knows-now}
 use Rattle.sweep.proofs.twins.judge.Goals as goal
 
 pub returns-then-sure : goal.returns-then-sure
-returns-then-sure c = 
+returns-then-sure c =
     let f = sym c.meet-slot.ensures.value ∙ c.in-Free.is in
     let e = c.key-key.ensures ∙ ap key_of c.lend.ensures in
     let k = c.requires.knows c.if-sure.true in
     record { twin_value = sym (none-like _ _ _ _ _ e (before c.args.h.location (metadata_in c.args.g c.args.image.now)) k _ f); knows_2 = λ _. rw (c.meet-slot.ensures.words_after, f) (knows-now _ _ _ _ _ e (before c.args.h.location (metadata_in c.args.g c.args.image.now)) k _ _ f) }
 
 pub returns-in-Met : goal.returns-in-Met
-returns-in-Met c = 
+returns-in-Met c =
     let f = sym c.meet-slot.ensures.value ∙ c.in-Met.is in
     let e = c.key-key.ensures ∙ ap key_of c.lend.ensures in
     record { twin_value = c.has_like.ensures; knows_2 = λ q. rw (c.meet-slot.ensures.words_after, f) (knows-met _ _ _ _ _ e (before c.args.h.location (metadata_in c.args.g c.args.image.now)) (c.requires.knows q) _ f) }

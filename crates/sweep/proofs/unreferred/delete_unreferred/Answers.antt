@@ -12,10 +12,6 @@ use Rattle.sweep.proofs.unreferred.delete_unreferred.Goals as goal
 pub loop-h-init : goal.loop-h-init
 loop-h-init c = rw c.new-v.ensures (unreferred_begin c.args.g c.args.f c.args.image.now c.args.twins _ (noted_again c.args.g (referred_in c.args.g c.args.image.now) (length c.args.words.now) _ c.note_referred.ensures) c.requires (λ j. (c.slice_known-1.given j).fits))
 
--- LOST same_length
--- same_length : tie.Need-same-length invariant-loop decreases-loop
--- same_length c = c.before.before.before.before.loop.invariant.long
-
 pub returns-in_default : goal.returns-in_default
 returns-in_default c = rw c.ended_with.ensures (sym (unreferred-finish _ _ _ _ _ _ _ _ _ c.loop-h.invariant (rest_none _ _ _ c.loop-h.invariant.at.fine _ _ c.next-x.ensures.goes (opened c.in_default.in_default-own.keys2))))
 
@@ -27,14 +23,6 @@ loop-h-smaller-then-is_referred c = rest-less _ _ _ c.loop-h.invariant.at.fine _
 
 pub loop-h-preserved-then-is_referred : goal.loop-h-preserved-then-is_referred
 loop-h-preserved-then-is_referred c = unreferred-pass _ _ _ _ _ _ _ _ _ c.loop-h.invariant _ _ (rest-on _ _ _ c.loop-h.invariant.at.fine _ _ _ (rw c.in-Object.is at c.next-x.ensures.goes)) _ c.is_referred.ensures c.if-is_referred.true
-
--- LOST same-length-3
--- same-length-3 : tie.Need-same-length-3 invariant-loop decreases-loop
--- same-length-3 c = c.before.before.before.before.before.update-state.auto.1.1.0 ∙ c.before.before.before.before.before.before.before.before.before.before.before.before.before.before.before.before.loop.invariant.long
-
--- LOST same-length-4
--- same-length-4 : tie.Need-same-length-4 invariant-loop decreases-loop
--- same-length-4 c = c.before.before.before.before.before.before.before.before.before.before.before.before.before.before.before.before.before.before.before.before.note-referred.auto.1.1.0
 
 pub returns-in_default-a : goal.returns-in_default-a
 returns-in_default-a c = rw (c.ended_with-in_default-a.ensures, c.in_default-a.is) (sym (unreferred-stop _ _ _ _ _ _ _ _ _ c.loop-h.invariant _ _ (rest-on _ _ _ c.loop-h.invariant.at.fine _ _ _ (rw c.in-Object.is at c.next-x.ensures.goes)) _ c.is_referred.ensures c.if-is_referred.false _ _ _ c.update_state-d.ensures.image_after c.in_default-a.is))

@@ -23,14 +23,14 @@ slice_bounds-write-end c = sym (length-take-le _ _ (fine_of_sizable _ _ _ _ c.ma
 
 pub returns-in_default : goal.returns-in_default
 unfolding set_payload_size
-returns-in_default c = 
+returns-in_default c =
     let h = (fine_of_sizable _ _ _ _ c.may_set_size-bad.ensures c.if-bad-ne0.false).sound.s_most in
     rw (c.kept-in_default.ensures, c.in_default.is)
     (record { image_after = sym (test_on _ _ _ _ _ c.may_set_size-bad.ensures c.if-bad-ne0.false ∙ stop _ _ _ _ _ _ tt _ (rw (c.size_at.ensures, bytes_take c.args.g.s c.args.size h) at c.write-a.ensures) c.in_default.is); header_value = refl })
 
 pub returns : goal.returns
 unfolding set_payload_size
-returns c = 
+returns c =
     let h = (fine_of_sizable _ _ _ _ c.may_set_size-bad.ensures c.if-bad-ne0.false).sound.s_most in
     rw (c.in-Done.is, c.with_size.ensures)
     (record { image_after = sym (test_on _ _ _ _ _ c.may_set_size-bad.ensures c.if-bad-ne0.false ∙ on _ _ _ _ _ _ tt _ (rw (c.size_at.ensures, bytes_take c.args.g.s c.args.size h) at c.write-a.ensures) c.in-Done.is ∙ run_ask _ _ _); header_value = refl })

@@ -22,7 +22,7 @@ pub span-requires : goal.span-requires
 span-requires c = rw c.in-Found.is at c.read-r.ensures.small_info
 
 pub past-requires : goal.past-requires
-past-requires c = 
+past-requires c =
     let v = fine_of_check _ _ _ c.check-bad.ensures c.if-bad-ne0.false in
     let p = span_small c.args.g.granularity c.args.g.s c.in-Found.h in
     let q = rw c.in-Found.is at c.read-r.ensures.small_info in

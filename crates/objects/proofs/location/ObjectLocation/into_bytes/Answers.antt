@@ -23,5 +23,5 @@ slice_bounds-put_number-end-2 c = let h : c.args.g.c ≤ length c.args.buffer.no
 
 pub returns : goal.returns
 unfolding into_bytes
-returns c = 
+returns c =
     record { buffer_after = ap done (two_put _ c.args.g.s _ _ c.args.buffer.now _ _ c.if-buffer-c.false c.put_number.ensures c.put_number-2.ensures) ∙ sym (gate_on _ _ _ c.fit-bad.ensures c.if-bad-ne0.false ∙ rw (eq-eqb _ _ c.if-buffer-c.false)); buffer_after_2 = refl }

@@ -19,7 +19,7 @@ returns-then-rank-eq2 c = rw (← c.read-got.ensures.result_value, c.in-Got.is, 
 
 pub returns-then-unfinished : goal.returns-then-unfinished
 unfolding reader_at
-returns-then-unfinished c = 
+returns-then-unfinished c =
     let h : 1 ≤ c.rank-rank.result = omega arith in
     rw (← c.read-got.ensures.result_value, c.in-Got.is, ← c.rank-rank.ensures, ne_eqb _ _ c.if-rank-eq2.false, c.if-unfinished.true, le-leb _ _ h)
 

@@ -1,5 +1,4 @@
 use mathlib.Core.Path.{sym, ◌∙◌}
-use native.Mathlib.Omega.{arith}
 use Rattle.medium.proofs.Runs.{on, stop}
 use Rattle.writer.specs.Writer.{close}
 use Rattle.writer.proofs.writer.ObjectWriter.close.Goals as goal
@@ -11,10 +10,6 @@ returns-in_default c = rw c.in_default.is (sym (stop _ _ _ _ _ _ _ _ c.flush-one
 pub returns-in_default-a2 : goal.returns-in_default-a2
 unfolding close
 returns-in_default-a2 c = rw c.in_default-a2.is (sym (on _ _ _ _ _ _ _ _ c.flush-one.ensures.image_after c.in-Done.is ∙ stop _ _ _ _ _ _ _ _ c.set_payload_size-two.ensures.image_after c.in_default-a2.is))
-
--- LOST same-length-3
--- same-length-3 : tie.Need-same-length-3
--- same-length-3 c = omega (arith, c.before.before.mark.auto.1.1.0, c.before.before.before.before.before.before.before.before.before.before.before.set-payload-size.auto.1.1.0, c.before.before.before.before.before.before.before.before.before.before.before.before.before.before.before.before.before.before.before.before.before.flush.auto.1.1.0)
 
 pub returns : goal.returns
 unfolding close

@@ -14,13 +14,13 @@ unfolding flush
 returns-then-n-eq0 c = rw (eq-eqb _ _ c.if-n-eq0.true, c.emptied.ensures) (record { image_after = sym (run_ask _ _ _); cursor_bound = omega (arith, c.requires) })
 
 pub slice_bounds-tail-end : goal.slice_bounds-tail-end
-slice_bounds-tail-end c = 
+slice_bounds-tail-end c =
     let e : length c.args.self.tail ≡ 4 = search rules in
     let h : c.args.self.held ≤ length c.args.self.tail = omega (arith, c.requires) in
     h
 
 pub slice_bounds-write-end : goal.slice_bounds-write-end
-slice_bounds-write-end c = 
+slice_bounds-write-end c =
     let e : length c.args.self.tail ≡ 4 = search rules in
     let h : c.args.self.held ≤ length c.args.self.tail = omega (arith, c.requires) in
     sym (length-take-le _ _ h)

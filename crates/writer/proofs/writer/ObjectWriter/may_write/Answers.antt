@@ -26,12 +26,12 @@ returns-then-size-at c = rw (← c.sound-bad.ensures, eq-eqb _ _ c.if-bad-ne0.fa
 
 pub returns-then-size-at-2 : goal.returns-then-size-at-2
 unfolding may_write
-returns-then-size-at-2 c = 
+returns-then-size-at-2 c =
     let h : c.args.g.size < data_at c.args.g c.args.self + c.args.self.held + c.args.n = omega (arith, c.data_at.ensures.value) in
     rw (← c.sound-bad.ensures, eq-eqb _ _ c.if-bad-ne0.false, ← c.rank.ensures, eq-eqb _ _ c.if-rank-ne1.false, le-leb _ _ (rw c.data_at.ensures.value at c.if-size-at.false), lt-leb _ _ h)
 
 pub returns : goal.returns
 unfolding may_write
-returns c = 
+returns c =
     let h : data_at c.args.g c.args.self + c.args.self.held + c.args.n ≤ c.args.g.size = omega (arith, c.data_at.ensures.value) in
     rw (← c.sound-bad.ensures, eq-eqb _ _ c.if-bad-ne0.false, ← c.rank.ensures, eq-eqb _ _ c.if-rank-ne1.false, le-leb _ _ (rw c.data_at.ensures.value at c.if-size-at.false), le-leb _ _ h)

@@ -16,7 +16,7 @@ pub returns-then-self-eq0 : goal.returns-then-self-eq0
 returns-then-self-eq0 c = rw (pending_one _ _ _ _ _ (fills_none c.args.self _ _ c.if-self-eq0.true), pending_none c.args.self c.args.src.now c.if-self-eq0.true) c.store_words.ensures.image_after
 
 pub returns-then-src-left : goal.returns-then-src-left
-returns-then-src-left c = 
+returns-then-src-left c =
     let w = width_is c.args.g.granularity in
     let l : length (pending_of c.args.self c.args.src.now) < width_of c.args.g.granularity = rw (pending_length c.args.self c.args.src.now ((let e : length c.args.self.tail ≡ 4 = search rules in
     let w = width_is c.args.g.granularity in
@@ -30,14 +30,14 @@ pub top_up-one-requires : goal.top_up-one-requires
 top_up-one-requires c = rw (length-take-le _ _ c.if-src-left.false) (omega (arith, c.requires, c.width.ensures))
 
 pub returns-in_default : goal.returns-in_default
-returns-in_default c = 
+returns-in_default c =
     let k : c.args.self.held + (c.width.result - c.args.self.held) ≡ width_of c.args.g.granularity = omega (arith, c.requires, c.width.ensures) in
     rw c.in_default.is (sym (pending_join _ _ _ _ _ _ ((let e : length c.args.self.tail ≡ 4 = search rules in
     let w = width_is c.args.g.granularity in
     omega (arith, c.requires))) c.if-self-eq0.false k c.if-src-left.false ∙ stop _ _ _ _ _ _ _ _ c.top_up-one.ensures.image_after c.in_default.is))
 
 pub returns : goal.returns
-returns c = 
+returns c =
     let k : c.args.self.held + (c.width.result - c.args.self.held) ≡ width_of c.args.g.granularity = omega (arith, c.requires, c.width.ensures) in
     (rw (rest_all _ _) at c.store_words-2.ensures.image_after) ∙ sym (pending_join _ _ _ _ _ _ ((let e : length c.args.self.tail ≡ 4 = search rules in
     let w = width_is c.args.g.granularity in

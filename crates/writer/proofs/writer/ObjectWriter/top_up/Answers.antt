@@ -16,13 +16,13 @@ pub overflow_add-n : goal.overflow_add-n
 overflow_add-n c = omega (arith, c.requires, width_is c.args.g.granularity)
 
 pub slice_bounds-word-end : goal.slice_bounds-word-end
-slice_bounds-word-end c = 
+slice_bounds-word-end c =
     let e : length c.pasted-word.result ≡ 4 = search rules in
     let h : c.args.self.held + length c.args.src.now ≤ length c.pasted-word.result = omega (arith, c.requires, width_is c.args.g.granularity) in
     h
 
 pub slice_bounds-store_words-end : goal.slice_bounds-store_words-end
-slice_bounds-store_words-end c = 
+slice_bounds-store_words-end c =
     let e : length c.pasted-word.result ≡ 4 = search rules in
     let h : c.args.self.held + length c.args.src.now ≤ length c.pasted-word.result = omega (arith, c.requires, width_is c.args.g.granularity) in
     sym (length-take-le _ _ h)

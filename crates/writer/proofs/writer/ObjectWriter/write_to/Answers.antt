@@ -1,5 +1,4 @@
 use mathlib.Core.Path.{sym, ◌∙◌}
-use native.Mathlib.Omega.{arith}
 use Rattle.medium.proofs.Runs.{on, stop, run_ask}
 use Rattle.writer.specs.Writer.{write_to}
 use Rattle.writer.proofs.writer.ObjectWriter.write_to.Goals as goal
@@ -12,17 +11,9 @@ pub returns-in_default-a2 : goal.returns-in_default-a2
 unfolding write_to
 returns-in_default-a2 c = rw (c.of-in_default-a2.ensures, c.in_default-a2.is) (sym (on _ _ _ _ _ _ _ _ c.allocate-one.ensures.image_after c.in-Done.is ∙ stop _ _ _ _ _ _ _ _ c.write-two.ensures.image_after c.in_default-a2.is))
 
--- LOST same-length-3
--- same-length-3 : tie.Need-same-length-3
--- same-length-3 c = omega (arith, c.before.before.before.before.before.finalize.auto.1.1.0, c.before.before.before.before.before.before.before.before.before.before.before.before.before.write.auto.1.1.0, c.before.before.before.before.before.before.before.before.before.before.before.before.before.before.before.before.before.before.before.before.before.allocate.auto.1.0)
-
 pub returns-in_default-a3 : goal.returns-in_default-a3
 unfolding write_to
 returns-in_default-a3 c = rw (c.of-in_default-a3.ensures, c.in_default-a3.is) (sym (on _ _ _ _ _ _ _ _ c.allocate-one.ensures.image_after c.in-Done.is ∙ on _ _ _ _ _ _ _ _ c.write-two.ensures.image_after c.in-Done-a2.is ∙ stop _ _ _ _ _ _ _ _ c.finalize-three.ensures.image_after c.in_default-a3.is))
-
--- LOST same-length-4
--- same-length-4 : tie.Need-same-length-4
--- same-length-4 c = omega (arith, c.before.before.before.before.before.before.before.before.finalize.auto.1.1.0, c.before.before.before.before.before.before.before.before.before.before.before.before.before.before.before.before.write.auto.1.1.0, c.before.before.before.before.before.before.before.before.before.before.before.before.before.before.before.before.before.before.before.before.before.before.before.before.allocate.auto.1.0)
 
 pub returns : goal.returns
 unfolding write_to
