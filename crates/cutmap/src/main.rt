@@ -11,34 +11,34 @@ ghost use Rattle.std.specs.Prelude.{◌≤◌, ◌≡◌, length};
 
 use cuts::moment::Moment;
 use files::Loaded;
-use libc::{STDERR_FILENO, STDOUT_FILENO};
 use lines::argument::NumberRead;
 use lines::moment::Twin;
 use medium::geometry::Geometry;
 use objects::header::{HeaderRead, ObjectHeader};
 use objects::location::ObjectLocation;
+use std::env::{Env, FillError};
 
 // More than a move can take: the payload of a whole block, its size, and four units.
 const MOST_UNITS: u32 = 65600;
 
-fn print_refusal(k: u8) {
+fn print_refusal(rt: &HostRuntime, k: u8) {
     let mut line = [0; 128];
     let n = lines::refusal::refusal_line(&mut line, k);
-    io::write_all(STDOUT_FILENO, &line[..n]);
+    let _ = rt.stdout().write_all(&line[..n]);
 }
 
-fn print_moment(s: u8, fuse: u32, m: Moment) {
+fn print_moment(rt: &HostRuntime, s: u8, fuse: u32, m: Moment) {
     let mut line = [0; 128];
     let original = m.original;
     let copy = m.copy;
     let n = lines::moment::moment_line(&mut line, s, fuse, m.answer, original, copy, m.agree);
-    io::write_all(STDOUT_FILENO, &line[..n]);
+    let _ = rt.stdout().write_all(&line[..n]);
 }
 
-fn print_twin(t: Twin) {
+fn print_twin(rt: &HostRuntime, t: Twin) {
     let mut line = [0; 128];
     let n = lines::moment::twin_line(&mut line, t);
-    io::write_all(STDOUT_FILENO, &line[..n]);
+    let _ = rt.stdout().write_all(&line[..n]);
 }
 
 // The fuses of the twin, with one more.
@@ -52,6 +52,7 @@ fn with(t: Twin, fuse: u32) -> Twin {
 
 // One fuse, on a fresh copy of the image.
 fn cut(
+    rt: &HostRuntime,
     g: Geometry,
     image: &[u8],
     work: &mut [u8],
@@ -61,9 +62,9 @@ fn cut(
 ) -> Moment
     requires { length image.now ≡ length work.old }
 {
-    bytes::copy(image, work);
+    work.copy_from_slice(image);
     let m = cuts::moment::move_under(g, work, fuse, h, to);
-    print_moment(g.s, fuse, m);
+    print_moment(rt, g.s, fuse, m);
     m
 }
 
@@ -78,60 +79,66 @@ fn end_after(end: u32, fuse: u32, answer: u8) -> u32
     if fuse + 2 < end { fuse + 2 } else { end }
 }
 
-fn print_map(g: Geometry, image: &[u8], work: &mut [u8], h: ObjectHeader, to: ObjectLocation)
+fn print_map(
+    rt: &HostRuntime,
+    g: Geometry,
+    image: &[u8],
+    work: &mut [u8],
+    h: ObjectHeader,
+    to: ObjectLocation,
+)
     requires { length image.now ≡ length work.old }
 {
     let mut twin = Twin::Never;
     let mut end = MOST_UNITS;
     let mut fuse = 0;
     while fuse < end {
-        let m = cut(g, image, work, fuse, h, to);
+        let m = cut(rt, g, image, work, fuse, h, to);
         if m.twin {
             twin = with(twin, fuse);
         }
         end = end_after(end, fuse, m.answer);
         fuse += 1;
     }
-    print_twin(twin);
+    print_twin(rt, twin);
 }
 
-fn map_object(g: Geometry, image: &[u8], from: ObjectLocation, to: ObjectLocation)
+fn map_object(rt: &HostRuntime, g: Geometry, image: &[u8], from: ObjectLocation, to: ObjectLocation)
     requires { length image.now ≤ 65536 }
 {
     let got = ObjectHeader::read(g, image, from);
     let HeaderRead::Got(h) = got else {
-        print_refusal(got.number());
+        print_refusal(rt, got.number());
         return;
     };
     let n = image.len();
     let mut work = [0; 65536];
-    print_map(g, image, &mut work[..n], h, to);
+    print_map(rt, g, image, &mut work[..n], h, to);
 }
 
-fn map(from: ObjectLocation, to: ObjectLocation) {
+fn map(rt: &HostRuntime, from: ObjectLocation, to: ObjectLocation) {
     let mut buffer = [0; 65536];
-    let loaded = files::load(b"geometry.bin", b"image.bin", &mut buffer);
+    let loaded = files::load(rt, b"geometry.bin", b"image.bin", &mut buffer);
     match loaded {
         Loaded::Failed => {}
-        Loaded::Refused(k) => print_refusal(k),
-        Loaded::Ready(g, n) => map_object(g, &buffer[..n], from, to),
+        Loaded::Refused(k) => print_refusal(rt, k),
+        Loaded::Ready(g, n) => map_object(rt, g, &buffer[..n], from, to),
     }
 }
 
-fn argument(i: usize) -> NumberRead {
+fn argument(rt: &HostRuntime, i: usize) -> NumberRead {
     let mut text = [0; 16];
-    let n = os::arg(i, &mut text);
-    if os::errno() != 0 {
-        return NumberRead::Refused;
+    let got = rt.arg(i, &mut text);
+    match got {
+        Ok(n) => lines::argument::number_of(&text[..n]),
+        Err(_) => NumberRead::Refused,
     }
-    lines::argument::number_of(&text[..n])
 }
 
-fn usage() {
-    io::write_all(
-        STDERR_FILENO,
-        b"usage: cutmap BLOCK OFFSET TO-BLOCK TO-OFFSET\n",
-    );
+fn usage(rt: &HostRuntime) {
+    let _ = rt
+        .stderr()
+        .write_all(b"usage: cutmap BLOCK OFFSET TO-BLOCK TO-OFFSET\n");
 }
 
 // The place that two arguments name.
@@ -141,14 +148,14 @@ enum Place {
     Refused,
 }
 
-fn place_of(i: usize) -> Place
+fn place_of(rt: &HostRuntime, i: usize) -> Place
     requires { i ≤ 8 }
 {
-    let first = argument(i);
+    let first = argument(rt, i);
     let NumberRead::Got(block) = first else {
         return Place::Refused;
     };
-    let second = argument(i + 1);
+    let second = argument(rt, i + 1);
     let NumberRead::Got(offset) = second else {
         return Place::Refused;
     };
@@ -158,20 +165,30 @@ fn place_of(i: usize) -> Place
     })
 }
 
-fn main() {
-    if os::arg_count() != 5 {
-        usage();
+// How many arguments there are, the program's own name among them.
+fn arg_count(rt: &HostRuntime) -> usize {
+    for i in 0..usize::MAX {
+        if let Err(FillError::NotPresent) = rt.arg(i, &mut []) {
+            return i;
+        }
+    }
+    usize::MAX
+}
+
+fn main(rt: HostRuntime) {
+    if arg_count(&rt) != 5 {
+        usage(&rt);
         return;
     }
-    let first = place_of(1);
+    let first = place_of(&rt, 1);
     let Place::At(from) = first else {
-        usage();
+        usage(&rt);
         return;
     };
-    let second = place_of(3);
+    let second = place_of(&rt, 3);
     let Place::At(to) = second else {
-        usage();
+        usage(&rt);
         return;
     };
-    map(from, to);
+    map(&rt, from, to);
 }

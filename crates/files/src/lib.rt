@@ -4,8 +4,10 @@
 // 01's number: 6 for the geometry, and then 7 for the image.
 #![tactic(auto)]
 
+mod failure;
 mod pair;
 mod whole;
 
+pub use failure::fail;
 pub use pair::{Loaded, load};
 pub use whole::{FileRead, read};

@@ -36,11 +36,11 @@ fn sound(raw: &[u8]) -> RecordFile
     RecordFile::Got(g)
 }
 
-fn load_geometry(path: &[u8]) -> RecordFile
+fn load_geometry(rt: &HostRuntime, path: &[u8]) -> RecordFile
     ensures { RecordFits result }
 {
     let mut raw = [0u8; 16];
-    let got = whole::read(path, &mut raw);
+    let got = whole::read(rt, path, &mut raw);
     match got {
         FileRead::Failed => RecordFile::Failed,
         FileRead::TooLong => RecordFile::Refused(6),
@@ -48,10 +48,10 @@ fn load_geometry(path: &[u8]) -> RecordFile
     }
 }
 
-fn load_image(path: &[u8], g: Geometry, buffer: &mut [u8]) -> Loaded
+fn load_image(rt: &HostRuntime, path: &[u8], g: Geometry, buffer: &mut [u8]) -> Loaded
     ensures { ImageFits g result (length buffer.old) }
 {
-    let got = whole::read(path, buffer);
+    let got = whole::read(rt, path, buffer);
     match got {
         FileRead::Failed => Loaded::Failed,
         FileRead::TooLong => Loaded::Refused(7),
@@ -66,13 +66,13 @@ fn load_image(path: &[u8], g: Geometry, buffer: &mut [u8]) -> Loaded
 }
 
 // Reads the record, and then the image into the buffer. Refused with 6 for the record, 7 for the image.
-pub fn load(record_path: &[u8], image_path: &[u8], buffer: &mut [u8]) -> Loaded
+pub fn load(rt: &HostRuntime, record_path: &[u8], image_path: &[u8], buffer: &mut [u8]) -> Loaded
     ensures { LoadedFits result (length buffer.old) }
 {
-    let got = load_geometry(record_path);
+    let got = load_geometry(rt, record_path);
     match got {
         RecordFile::Failed => Loaded::Failed,
         RecordFile::Refused(k) => Loaded::Refused(k),
-        RecordFile::Got(g) => load_image(image_path, g, buffer),
+        RecordFile::Got(g) => load_image(rt, image_path, g, buffer),
     }
 }

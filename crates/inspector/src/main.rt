@@ -10,97 +10,121 @@
 
 use blocks::record::BlockInfoRead;
 use files::Loaded;
-use libc::{STDERR_FILENO, STDOUT_FILENO};
 use medium::geometry::Geometry;
 use objects::header::ObjectHeader;
 use objects::iterator::{Next, ObjectIterator};
+use std::env::{Env, FillError};
+use std::io::Error;
 
-fn print_refusal(k: u8) {
+fn print_refusal(rt: &HostRuntime, k: u8) {
     let mut line = [0; 128];
     let n = lines::refusal::refusal_line(&mut line, k);
-    io::write_all(STDOUT_FILENO, &line[..n]);
+    let _ = rt.stdout().write_all(&line[..n]);
 }
 
-fn print_object(s: u8, h: ObjectHeader) {
+fn print_object(rt: &HostRuntime, s: u8, h: ObjectHeader) {
     let mut line = [0; 128];
     let n = lines::object::object_line(&mut line, s, h);
-    io::write_all(STDOUT_FILENO, &line[..n]);
+    let _ = rt.stdout().write_all(&line[..n]);
 }
 
-fn print_objects(g: Geometry, image: &[u8], block: u32) {
+fn print_objects(rt: &HostRuntime, g: Geometry, image: &[u8], block: u32) {
     let mut i = ObjectIterator::new(g, block);
     loop {
         let n = i.next(g, image);
         let Next::Object(h, j) = n else {
             return;
         };
-        print_object(g.s, h);
+        print_object(rt, g.s, h);
         i = j;
     }
 }
 
-fn print_record(block: u32, scan: BlockInfoRead) {
+fn print_record(rt: &HostRuntime, block: u32, scan: BlockInfoRead) {
     let mut line = [0; 128];
     let n = lines::block::block_line(&mut line, block, scan);
-    io::write_all(STDOUT_FILENO, &line[..n]);
+    let _ = rt.stdout().write_all(&line[..n]);
 }
 
 // The line of a block, and its objects if its kind is known.
-fn print_block(g: Geometry, image: &[u8], block: u32) {
+fn print_block(rt: &HostRuntime, g: Geometry, image: &[u8], block: u32) {
     let scan = blocks::scan::scan_block(g, image, block);
-    print_record(block, scan);
+    print_record(rt, block, scan);
     let BlockInfoRead::Got(info) = scan else {
         return;
     };
     let header = info.header;
     let kind = header.kind;
     if kind.is_known() {
-        print_objects(g, image, block);
+        print_objects(rt, g, image, block);
     }
 }
 
-fn print_image(g: Geometry, image: &[u8]) {
+fn print_image(rt: &HostRuntime, g: Geometry, image: &[u8]) {
     let count = g.count;
     let mut block = 0;
     while block < count {
-        print_block(g, image, block);
+        print_block(rt, g, image, block);
         block += 1;
     }
 }
 
-fn inspect(geometry: &[u8], image: &[u8]) {
+fn inspect(rt: &HostRuntime, geometry: &[u8], image: &[u8]) {
     let mut buffer = [0; 65536];
-    let loaded = files::load(geometry, image, &mut buffer);
+    let loaded = files::load(rt, geometry, image, &mut buffer);
     match loaded {
         Loaded::Failed => {}
-        Loaded::Refused(k) => print_refusal(k),
-        Loaded::Ready(g, n) => print_image(g, &buffer[..n]),
+        Loaded::Refused(k) => print_refusal(rt, k),
+        Loaded::Ready(g, n) => print_image(rt, g, &buffer[..n]),
     }
+}
+
+// The C library's numbers for an argument that is missing, and for one that is too long.
+const EINVAL: i32 = 22;
+
+const ENAMETOOLONG: i32 = 36;
+
+fn fail_at_name(rt: &HostRuntime, what: &[u8], e: FillError) {
+    let code = match e {
+        FillError::NotPresent => EINVAL,
+        FillError::TooLong => ENAMETOOLONG,
+    };
+    files::fail(rt, what, Error::from_raw_os_error(code));
 }
 
 // The files that two arguments name.
-fn inspect_named() {
-    let mut geometry = io::buffer();
-    let n = os::arg(1, &mut geometry);
-    if os::errno() != 0 {
-        os::fail(b"the name of the geometry file");
-        return;
-    }
-    let mut image = io::buffer();
-    let m = os::arg(2, &mut image);
-    if os::errno() != 0 {
-        os::fail(b"the name of the image file");
-        return;
-    }
-    inspect(&geometry[..n], &image[..m]);
+fn inspect_named(rt: &HostRuntime) {
+    let mut geometry = [0; 4096];
+    let n = match rt.arg(1, &mut geometry) {
+        Ok(n) => n,
+        Err(e) => return fail_at_name(rt, b"the name of the geometry file", e),
+    };
+    let mut image = [0; 4096];
+    let m = match rt.arg(2, &mut image) {
+        Ok(m) => m,
+        Err(e) => return fail_at_name(rt, b"the name of the image file", e),
+    };
+    inspect(rt, &geometry[..n], &image[..m]);
 }
 
-fn main() {
-    match os::arg_count() {
-        1 => inspect(b"geometry.bin", b"image.bin"),
-        3 => inspect_named(),
+// How many arguments there are, the program's own name among them.
+fn arg_count(rt: &HostRuntime) -> usize {
+    for i in 0..usize::MAX {
+        if let Err(FillError::NotPresent) = rt.arg(i, &mut []) {
+            return i;
+        }
+    }
+    usize::MAX
+}
+
+fn main(rt: HostRuntime) {
+    match arg_count(&rt) {
+        1 => inspect(&rt, b"geometry.bin", b"image.bin"),
+        3 => inspect_named(&rt),
         _ => {
-            io::write_all(STDERR_FILENO, b"usage: inspector [GEOMETRY IMAGE]\n");
+            let _ = rt
+                .stderr()
+                .write_all(b"usage: inspector [GEOMETRY IMAGE]\n");
         }
     }
 }
