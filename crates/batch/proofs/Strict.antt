@@ -1,11 +1,10 @@
 -- The strict mark at a batch: it stops at 10 as at any refusal.
-use mathlib.Core.Path.{◌≡◌, refl}
 use mathlib.Core.List.{List, [], ◌∷◌}
 use Prim.Native.Nat.{ℕ, ◌+◌}
 use lib.ListN.{length}
 use Rattle.medium.specs.declared.geometry.Geometry.{Geometry}
 use Rattle.medium.specs.Operation.{flash}
-use Rattle.medium.specs.Beside.{Both, beside}
+use Rattle.medium.specs.Beside.{beside}
 use Rattle.medium.specs.Marked.{Fresh, FreshBeside, UnderMark, UnderMarkBeside, with_strict, Beside}
 use Rattle.medium.proofs.Marked.{kept_under, test_under, bind_under, image_under, fields_under, admit_same}
 use Rattle.writer.proofs.Strict.{write_to_under}

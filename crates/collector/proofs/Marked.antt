@@ -31,7 +31,7 @@ use Rattle.objects.specs.Info.{Info, found, info_in, info_at, total_of}
 use Rattle.objects.specs.Listing.{start_of, behind, Met, object, free_place, block_end, next_in, next_of, Visit, list_by, list_from, listing}
 use Rattle.objects.proofs.Listing.{next_found, next_moves}
 use Rattle.objects.proofs.Places.{places}
-use Rattle.collector.specs.Finished.{Allocated, Reached, Guarded}
+use Rattle.collector.specs.Finished.{Reached, Guarded}
 use Rattle.shown.proofs.Agreeing.{Agree, found_short, read_agree, info_agree, next_by_lem}
 use Rattle.collector.proofs.Untouched.{header_avoids, Outside, ahead}
 

@@ -9,7 +9,6 @@ use Rattle.medium.specs.declared.geometry.Geometry.{Geometry}
 use Rattle.medium.specs.declared.fuse.Fuse.{Fuse}
 use Rattle.medium.specs.declared.fuse.Stored.{Stored}
 use Rattle.medium.specs.declared.fuse.Stored.TheVariants.{Done, Refused}
-use Rattle.medium.specs.Granularity.{header}
 use Rattle.medium.specs.Geometry.{check_of}
 use Rattle.medium.specs.Operation.{Answer, done, refused, and_then, EndIn, run, ended, ended_by, give}
 use Rattle.medium.specs.Beside.{Both, both, beside}

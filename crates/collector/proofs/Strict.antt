@@ -1,14 +1,14 @@
 -- The strict mark at a collection: it can only stop it.
-use mathlib.Core.Path.{◌≡◌, refl}
+use mathlib.Core.Path.{refl}
 use mathlib.Core.Bool.{Bool, true, false}
-use mathlib.Core.List.{List, [], ◌∷◌}
+use mathlib.Core.List.{[], ◌∷◌}
 use Prim.Native.Nat.{ℕ, zero, suc, ◌+◌, ◌-◌, ◌*◌}
 use lib.ListN.{length}
-use lib.Dec.{leb, ltb, eqb}
+use lib.Dec.{leb, eqb}
 use Rattle.medium.specs.declared.geometry.Geometry.{Geometry}
-use Rattle.medium.specs.Granularity.{pick, header}
+use Rattle.medium.specs.Granularity.{header}
 use Rattle.medium.specs.Operation.{flash}
-use Rattle.medium.specs.Beside.{Both, beside}
+use Rattle.medium.specs.Beside.{beside}
 use Rattle.medium.specs.Marked.{Fresh, FreshBeside, UnderMark, UnderMarkBeside, with_strict, Beside}
 use Rattle.medium.proofs.Marked.{ask_under, kept_under, test_under, bind_under, pick_under, image_under, fields_under, admit_same}
 use Rattle.objects.specs.declared.state.ObjectState.TheVariants as state
@@ -18,17 +18,16 @@ use Rattle.objects.specs.declared.header.PayloadSize.TheVariants.{Set, Unset}
 use Rattle.objects.specs.declared.iterator.ObjectIterator.{ObjectIterator}
 use Rattle.objects.specs.Header.{payload_size_of}
 use Rattle.objects.specs.Payload.{payload_at}
-use Rattle.objects.specs.Listing.{start_of, Met, object, free_place, block_end, next_of, listing}
+use Rattle.objects.specs.Listing.{start_of, Met, object, free_place, block_end}
 use Rattle.objects.proofs.Strict.{next_same, listing_same, update_state_under, set_payload_size_under}
 use Rattle.blocks.specs.declared.header.BlockHeaderKind.{BlockHeaderKind}
 use Rattle.blocks.specs.declared.header.BlockHeaderKind.TheVariants.{Empty, Unknown, Known}
 use Rattle.blocks.specs.declared.record.BlockInfo.{BlockInfo}
-use Rattle.blocks.specs.Format.{plan_at}
 use Rattle.blocks.specs.Record.{erased_record, record_numbers}
 use Rattle.blocks.specs.Scan.{is_allocated}
 use Rattle.blocks.proofs.Strict.{plan_same, format_under}
-use Rattle.collector.specs.Table.{Pass, record_length, allow_mark, record_at, storing, allowing, collectable}
-use Rattle.collector.specs.Passes.{delete_object, repair_by, repairing, repaired, visit_one, go_on, visiting, deleting, delete_by, delete_invalid_objects_in_block, worn_by, worn_out, formatting, renewing, erasing_by, erasing, unfinished_in, erase_invalid_finished_block, deleted_in, erase_full_finished_block, Step, block_step, sweep, pass, collect}
+use Rattle.collector.specs.Table.{Pass, record_length, allow_mark, storing, allowing, collectable}
+use Rattle.collector.specs.Passes.{delete_object, repair_by, repairing, repaired, visit_one, go_on, visiting, deleting, delete_by, delete_invalid_objects_in_block, worn_out, formatting, renewing, erasing_by, erasing, erase_invalid_finished_block, erase_full_finished_block, Step, block_step, sweep, pass, collect}
 
 module _ (g : Geometry) (m : ℕ) (v : Beside g m) where
   -- ---- the first pass

@@ -1,7 +1,7 @@
 -- Under the strict mark: units over erased bytes that they share with no other are programmed once, and an operation that stores such units
 -- without the mark stores them under it.
 use mathlib.Core.Path.{◌≡◌, refl, sym, ap, subst, ◌∙◌}
-use mathlib.Core.Logic.{◌⊎◌, inl, inr}
+use mathlib.Core.Logic.{inl, inr}
 use mathlib.Core.Bool.{Bool, true, false}
 use mathlib.Core.List.{List, [], ◌∷◌, ◌++◌, append_assoc}
 use Prim.Native.Nat.{ℕ, ◌+◌, ◌*◌, ◌≤◌, ◌<◌}
@@ -15,10 +15,10 @@ use Rattle.medium.specs.All.{All}
 use Rattle.medium.specs.Granularity.{pick, width_of, units_in, align_of, finish_at, finish_mark, size_at, header}
 use Rattle.medium.specs.Geometry.{geometry_ok, admit, check_of}
 use Rattle.medium.specs.Units.{FlashUnit, padded, units_of}
-use Rattle.medium.specs.Operation.{flash, apply, Run, Op}
+use Rattle.medium.specs.Operation.{flash, apply, Op}
 use Rattle.medium.specs.Marked.{Fresh, Once, UnderMark, with_strict, Beside}
 use Rattle.medium.proofs.Bytes.{Misses, All-append, frame, length-apply}
-use Rattle.medium.proofs.Checks.{Sound, sound_is, geometry_yes, picked}
+use Rattle.medium.proofs.Checks.{sound_is, geometry_yes, picked}
 use Rattle.medium.proofs.Places.{Laid, laid}
 use Rattle.medium.proofs.Traced.{ran}
 use Rattle.medium.proofs.Strict.{once_words, free_store}
@@ -27,7 +27,7 @@ use Rattle.objects.specs.declared.types.ObjectType.{ObjectType}
 use Rattle.objects.specs.Types.{type_byte}
 use Rattle.objects.specs.Numbers.{bytes}
 use Rattle.objects.proofs.Numbers.{length_bytes}
-use Rattle.fresh.specs.Units.{span, type_units, pay_units, size_units, mark_units, before, new_units}
+use Rattle.fresh.specs.Units.{span, type_units, pay_units, size_units, before, new_units}
 use Rattle.fresh.proofs.Written.{New, type_clear, pay_clear, inside}
 
 -- ---- a store behind units that miss it, over bytes that were FF

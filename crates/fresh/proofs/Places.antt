@@ -11,8 +11,7 @@ use Rattle.medium.specs.declared.geometry.Geometry.{Geometry}
 use lib.Dec.{eqb}
 use Rattle.medium.specs.Granularity.{pick, width_of, units_in, align_of, most_strict, finish_at, delete_at, header}
 use Rattle.medium.specs.Geometry.{address}
-use Rattle.medium.specs.Operation.{Answer, done, refused}
-use Rattle.objects.specs.declared.state.ObjectDataState.{ObjectDataState}
+use Rattle.medium.specs.Operation.{done, refused}
 use Rattle.objects.specs.declared.state.ObjectDataState.TheVariants.{Untrusted, Valid, Deleted}
 use Rattle.objects.specs.Types.{mark_of, pair_of, marks_of}
 use Rattle.medium.proofs.Places.{even_add, quad_even}

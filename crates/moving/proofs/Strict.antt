@@ -1,5 +1,5 @@
 -- The strict mark at a copy and a move: it can only stop them.
-use mathlib.Core.Path.{◌≡◌, refl}
+use mathlib.Core.Path.{◌≡◌}
 use mathlib.Core.List.{List}
 use Prim.Native.Nat.{ℕ, zero, suc, ◌+◌, ◌-◌, min}
 use Rattle.medium.specs.declared.geometry.Geometry.{Geometry}

@@ -35,7 +35,6 @@ use Rattle.medium.proofs.Bytes.{get_d_part}
 use Rattle.medium.proofs.Places.{Laid, laid}
 use Rattle.medium.proofs.Checks.{within}
 use Rattle.objects.proofs.Equal.{equal_refl}
-use Rattle.powercut.specs.Stores.{before}
 use Rattle.medium.proofs.Traced.{state_cut}
 use Rattle.powercut.proofs.Ran.{Ready}
 use Rattle.powercut.proofs.Survive.{us, units_are, cut_before, move_traced, copy_size, span_is, fine_is, told, long, apart_plain, ready, demand}

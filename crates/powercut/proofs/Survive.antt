@@ -20,7 +20,6 @@ use Rattle.objects.specs.declared.state.ObjectDataState.TheVariants.{Untrusted, 
 use Rattle.objects.specs.declared.state.CompositeObjectState.TheVariants.{Free, Allocated}
 use Rattle.objects.specs.declared.location.ObjectLocation.{ObjectLocation}
 use Rattle.objects.specs.declared.header.ObjectHeader.{ObjectHeader}
-use Rattle.objects.specs.Numbers.{bytes}
 use Rattle.objects.specs.Header.{payload_of}
 use Rattle.objects.specs.Info.{total_of, span_of}
 use Rattle.moving.specs.Moving.{move_object}

@@ -1,6 +1,6 @@
 -- Computed rows, over two blocks of 64 bytes: row 11's move at each cut, why each condition of the demand is there, and which cuts leave a
 -- block that cannot be listed. Each image is a smallest one.
-use Rattle.std.specs.Prelude.{◌≡◌, refl, Bool, true, false, not, ◌&&◌, ◌||◌, List, [], ◌∷◌, ◌++◌, ℕ, zero, suc, ◌+◌, ◌-◌, ◌%◌, length, get_or, replicate, leb, ltb, eqb}
+use Rattle.std.specs.Prelude.{◌≡◌, refl, Bool, true, false, not, ◌&&◌, ◌||◌, List, [], ◌∷◌, ◌++◌, ℕ, zero, suc, ◌+◌, ◌%◌, length, get_or, replicate, leb, ltb, eqb}
 use Rattle.std.proofs.Math.Pow.{are_bytes}
 use Rattle.medium.specs.declared.granularity.Granularity.{Granularity}
 use Rattle.medium.specs.declared.granularity.Granularity.TheVariants.{Bit, Word1, Word4}

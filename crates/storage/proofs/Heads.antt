@@ -13,7 +13,7 @@ use Rattle.medium.specs.Operation.{Answer, done, refused}
 use Rattle.objects.specs.declared.location.ObjectLocation.{ObjectLocation}
 use Rattle.objects.specs.declared.header.ObjectHeader.{ObjectHeader}
 use Rattle.objects.specs.declared.iterator.ObjectIterator.{ObjectIterator}
-use Rattle.objects.specs.Info.{found, info_at, span_of}
+use Rattle.objects.specs.Info.{found, info_at}
 use Rattle.objects.specs.Listing.{Met, object, free_place, block_end, next_of}
 use Rattle.blocks.specs.declared.header.BlockType.{BlockType}
 use Rattle.storage.specs.declared.visit.Visitor.{Visitor}

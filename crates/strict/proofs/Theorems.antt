@@ -29,7 +29,6 @@ use Rattle.collector.proofs.Strict.{first_pass_under, second_pass_under, third_p
 use Rattle.batch.proofs.Strict.{write_all_under}
 use Rattle.fresh.proofs.Places.{mark_most}
 use Rattle.fresh.proofs.Marked.{beside_plain}
-use Rattle.sweep.specs.Lists.{every}
 use Rattle.sweep.specs.Referring.{listings, sweepable}
 use Rattle.sweep.specs.Laws.{sweep_by}
 use Rattle.sweep.proofs.Turns.{sweep_stop}

@@ -2,7 +2,7 @@
 -- refuses the mark before any store.
 use Rattle.std.specs.Prelude.{List, ℕ}
 use Rattle.medium.specs.declared.geometry.Geometry.{Geometry}
-use Rattle.medium.specs.Operation.{OpIn, Op, ◌>>=◌, ◌>>◌, give}
+use Rattle.medium.specs.Operation.{OpIn, Op, ◌>>◌, give}
 use Rattle.medium.specs.Beside.{beside, on_image}
 use Rattle.medium.specs.Medium as medium
 use Rattle.objects.specs.declared.types.ObjectType.{ObjectType}

@@ -15,7 +15,7 @@ use Rattle.medium.specs.declared.fuse.Stored.TheVariants as stored
 use Rattle.medium.specs.Granularity.{width_of, finish_at, delete_at, size_at, header, block_header}
 use Rattle.medium.specs.Geometry.{check_of, address}
 use Rattle.medium.specs.Units.{FlashUnit}
-use Rattle.medium.specs.Operation.{flash, apply, done, Op, ◌>>=◌, ◌>>◌, give, test, run, End, ended_by}
+use Rattle.medium.specs.Operation.{flash, apply, done, Op, ◌>>◌, give, test, run, End, ended_by}
 use Rattle.medium.specs.Medium.{write, units_at}
 use Rattle.objects.specs.declared.types.ObjectType.{ObjectType}
 use Rattle.objects.specs.declared.state.ObjectDataState.TheVariants.{Valid, Deleted}

@@ -1,5 +1,4 @@
 use mathlib.Core.Path.{sym, ◌∙◌}
-use native.Mathlib.Omega.{arith}
 use Rattle.medium.proofs.Runs.{on, stop}
 use Rattle.moving.specs.Steps.{write_copy}
 use Rattle.moving.proofs.write_copy.Goals as goal

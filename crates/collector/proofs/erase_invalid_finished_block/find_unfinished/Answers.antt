@@ -1,5 +1,4 @@
 use mathlib.Core.Path.{sym, ◌∙◌}
-use Prim.Native.Nat.{◌-◌}
 use native.Mathlib.Omega.{arith}
 use Rattle.objects.specs.Listing.{listing}
 use Rattle.objects.proofs.Listing.{next_moves, header_some}

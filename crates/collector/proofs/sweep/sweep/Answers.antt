@@ -1,9 +1,7 @@
 use mathlib.Core.Path.{refl, sym, ◌∙◌}
-use Prim.Native.Nat.{◌-◌}
 use native.Mathlib.Omega.{arith}
 use borrow.Author.Rules.{rules}
 use Rattle.medium.proofs.Runs.{on, stop}
-use Rattle.collector.specs.Passes as passes
 use Rattle.collector.proofs.Tables.{collect_checked, rows_of}
 use Rattle.collector.proofs.Sweeps.{sweep_step, sweep_end, pass-stop, pass_on}
 use Rattle.collector.proofs.sweep.sweep.Goals as goal

@@ -1,5 +1,4 @@
 use mathlib.Core.Path.{sym, ◌∙◌}
-use Prim.Native.Nat.{◌-◌}
 use native.Mathlib.Omega.{arith}
 use Rattle.medium.proofs.Ranges.{read_lent, read_refused}
 use Rattle.storage.proofs.Looking.{turns_start, turns_end, turn-refused, turn-differs, turn-same}

@@ -1,5 +1,4 @@
 use mathlib.Core.Path.{sym, ◌∙◌}
-use Rattle.storage.specs.Lookup as def
 use Rattle.storage.proofs.Looking.{look_start, look_stop, look_end, look-refused, look-found, look-on, look-less}
 use Rattle.storage.proofs.lookup.lookup.Goals as goal
 

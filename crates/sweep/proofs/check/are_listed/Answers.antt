@@ -1,6 +1,4 @@
 use mathlib.Core.Path.{refl, sym, ◌∙◌}
-use Prim.Native.Nat.{◌-◌}
-use Rattle.sweep.specs.Referring.{is_listed}
 use Rattle.sweep.proofs.Lists.{every_none, every-on, every-not}
 use Rattle.sweep.proofs.Places.{places_none, places-on, places-less}
 use borrow.Enum.Refused.{opened}

@@ -1,5 +1,4 @@
 use mathlib.Core.Path.{sym, ◌∙◌}
-use Rattle.sweep.specs.Referring.{is_sound}
 use Rattle.sweep.proofs.Lists.{every_none, every-on, every-not}
 use Rattle.sweep.proofs.Walking.{rest_none, rest-on, rest-less}
 use borrow.Enum.Refused.{opened}

@@ -1,5 +1,4 @@
 use mathlib.Core.Path.{refl, sym, ◌∙◌}
-use Prim.Native.Nat.{◌-◌}
 use Rattle.sweep.proofs.Lists.{some_none, some-hit, some-miss}
 use Rattle.sweep.proofs.Places.{places_none, places-on, places-less}
 use borrow.Enum.Refused.{opened}

@@ -1,5 +1,4 @@
 use mathlib.Core.Path.{sym, ◌∙◌}
-use Rattle.sweep.specs.Twins.{is_twin}
 use Rattle.sweep.proofs.Lists.{some_none, some-hit, some-miss, before_none, before_here, before_on}
 use Rattle.sweep.proofs.Walking.{rest_none, rest-on, rest-less}
 use borrow.Enum.Refused.{opened}

@@ -1,5 +1,4 @@
 use mathlib.Core.Path.{◌≡◌}
-use Rattle.storage.specs.declared.visit.Visited.TheVariants as visited
 use Rattle.storage.specs.Order.{tour_from}
 use Rattle.storage.proofs.Order.{togo}
 use Rattle.storage.proofs.visit.Visitor.next.Given as goal
