@@ -15,7 +15,6 @@ use Rattle.medium.specs.Operation.{done, run}
 use Rattle.objects.specs.declared.types.ObjectType.{ObjectType}
 use Rattle.objects.specs.declared.location.ObjectLocation.{ObjectLocation}
 use Rattle.objects.specs.declared.header.ObjectHeader.{ObjectHeader}
-use Rattle.objects.specs.Info.{none}
 use Rattle.objects.specs.Listing.{placed, Stop, list_from, listing, Visit}
 use Rattle.blocks.specs.Scan.{unless_broken}
 use Rattle.moving.specs.Moving.{move_object}
@@ -27,7 +26,7 @@ use Rattle.powercut.specs.Scans.{stop_after, Ended}
 use Rattle.fresh.specs.Scans.{Untyped, NoneFinished, CutShows}
 use Rattle.byname.specs.Street.{Street, Looked, FoundAtEveryCut}
 use Rattle.medium.proofs.Runs.{leb_is}
-use Rattle.shown.proofs.Walk.{place, Walked}
+use Rattle.shown.proofs.Walk.{Walked}
 use Rattle.powercut.proofs.Survive.{told, demand}
 use Rattle.powercut.proofs.Scans.{room_is, end_is, n_is, as_new}
 use Rattle.fresh.proofs.Scans.{cut_shows}

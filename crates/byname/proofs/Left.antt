@@ -22,7 +22,7 @@ use Rattle.objects.specs.Numbers.{number}
 use Rattle.objects.specs.Types.{rank_of}
 use Rattle.objects.specs.Location.{location_length, location_in}
 use Rattle.objects.specs.Header.{payload_of}
-use Rattle.objects.specs.Info.{found, none, info_at, total_of, span_of}
+use Rattle.objects.specs.Info.{found, info_at, total_of, span_of}
 use Rattle.objects.specs.Payload.{payload_at}
 use Rattle.objects.specs.Listing.{placed, Met, object, free_place, block_end, next_of, Visit, Stop, end, free, broken, Listing, visited, list_by, list_from, listing}
 use Rattle.objects.specs.Metadata.{metadata_header}

@@ -1,13 +1,13 @@
 -- A lookup block by block: blocks in which nothing matches are passed, and the first that has a match, or a refusal, decides.
 use mathlib.Core.Path.{◌≡◌, refl, sym, ap, ◌∙◌}
-use mathlib.Core.Bool.{Bool, true, false}
+use mathlib.Core.Bool.{true, false}
 use mathlib.Core.List.{List, [], ◌∷◌, ◌++◌, append_assoc}
 use Prim.Native.Nat.{ℕ, zero, suc, ◌+◌, ◌-◌, ◌≤◌, ◌<◌}
 use native.Mathlib.Nat.{sub-zero}
 use native.Mathlib.Omega.{arith}
 use lib.ListN.{length}
 use Rattle.medium.specs.declared.geometry.Geometry.{Geometry}
-use Rattle.medium.specs.Granularity.{pick, longest_block_header}
+use Rattle.medium.specs.Granularity.{longest_block_header}
 use Rattle.medium.specs.Geometry.{check_of}
 use Rattle.medium.specs.Operation.{Answer, done, refused}
 use Rattle.objects.specs.declared.location.ObjectLocation.{ObjectLocation}

@@ -16,7 +16,7 @@ use Rattle.objects.specs.declared.types.ObjectType.{ObjectType}
 use Rattle.objects.specs.declared.location.ObjectLocation.{ObjectLocation}
 use Rattle.objects.specs.declared.header.ObjectHeader.{ObjectHeader}
 use Rattle.objects.specs.Info.{none, info_at, total_of, span_of}
-use Rattle.objects.specs.Listing.{placed, Visit, end, Listing, visited, list_from, listing}
+use Rattle.objects.specs.Listing.{placed, Visit, Listing, visited, list_from, listing}
 use Rattle.storage.specs.Order.{Tour, is_finished, finished_in}
 use Rattle.storage.specs.Laws.{Entry, entries}
 use Rattle.powercut.specs.Demand.{Whole, address_of, payload_in, copy_of, Movable, units_to, Framed, Survives}

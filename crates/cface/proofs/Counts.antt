@@ -2,7 +2,7 @@
 use mathlib.Core.Path.{◌≡◌, refl, sym, ap, ◌∙◌}
 use mathlib.Core.Bool.{Bool, true, false, ◌&&◌}
 use mathlib.Core.List.{List}
-use Prim.Native.Nat.{ℕ, zero, suc, ◌+◌, ◌-◌, ◌≤◌, ◌<◌}
+use Prim.Native.Nat.{ℕ, zero, suc, ◌+◌, ◌≤◌, ◌<◌}
 use native.Mathlib.Omega.{arith}
 use lib.ListN.{length, take, drop, length-append, length-take, length-drop}
 use lib.Dec.{leb}
@@ -23,7 +23,7 @@ use Rattle.objects.specs.declared.header.ObjectHeader.{ObjectHeader}
 use Rattle.objects.specs.Types.{rank_of}
 use Rattle.objects.specs.Header.{set_state, set_payload_size}
 use Rattle.writer.specs.declared.writer.ObjectWriter.{ObjectWriter}
-use Rattle.writer.specs.Writer.{fresh_of, with_header, emptied, possible, allocate, sound_of, may_write, whole_of, pending_of, held_back, put_pending, write_some, may_finish, flush, close, finalize, deleting, delete}
+use Rattle.writer.specs.Writer.{fresh_of, with_header, emptied, allocate, sound_of, may_write, whole_of, pending_of, held_back, put_pending, write_some, may_finish, flush, close, finalize, deleting, delete}
 use Rattle.writer.proofs.Laws.{width, Possible, sound_is, has_room, finish_is}
 use Rattle.writer.proofs.Steps.{whole_le}
 use Rattle.writer.proofs.Stored.{gave, none_refused, allocate_stores, some_stores, flush_stores}

@@ -1,7 +1,7 @@
 -- The rows of specs/Rows.antt, computed.
 use Rattle.std.specs.Prelude.{true, ◌≡◌, refl}
 use Rattle.medium.specs.Geometry.{geometry_ok, admit, fit_of}
-use Rattle.medium.specs.Operation.{◌>>=◌, ◌>>◌, ask, test, putting, run}
+use Rattle.medium.specs.Operation.{◌>>=◌, ask, test, putting, run}
 use Rattle.medium.specs.Strict.{not_erased}
 use Rattle.medium.specs.Medium.{readable, writable, storable, erasable, read_at, write, erase}
 use Rattle.medium.specs.Bench.{all}
@@ -15,7 +15,7 @@ use Rattle.blocks.specs.BlockHeader.{header_bytes, write_header, padded, marked,
 use Rattle.blocks.specs.Format.{data_empty_at, again, plan_known, plan_of, plan_at, labelling, renewing, format_block, set_block_type}
 use Rattle.writer.specs.Writer.{sound_of, allocate, may_write, put_bytes, write_some, may_finish, flush, close, finalize, delete, write_to}
 use Rattle.moving.specs.Moving.{source_at, chunk, copying, copy_object, move_object}
-use Rattle.rows.specs.Rows.{blank, kind_in, table}
+use Rattle.rows.specs.Rows.{table}
 
 pub rows : all table ≡ true
 unfolding geometry_ok admit fit_of ◌>>=◌ ask test putting run readable writable storable not_erased read_at write type_of mark_of pair_of marks_of state_in state_at sized_at header_at payload_size_of payload_of allocatable_of marking set_state staying update_state sizable_of set_payload_size info_at total_of reader_at remaining_of left_of read_some next_of list_from listing sound_of allocate may_write put_bytes write_some may_finish flush close finalize delete write_to source_at chunk copying copy_object move_object erasable erase header_bytes write_header padded marked header.blank kind_of_type named_kind header.kind_in block_header_at data_empty_at again plan_known plan_of plan_at labelling renewing format_block set_block_type

@@ -1,5 +1,5 @@
 -- The rows of specs/Storage.antt, computed.
-use Rattle.std.specs.Prelude.{true, ◌≡◌, refl, ◌++◌, ◌+◌}
+use Rattle.std.specs.Prelude.{true, ◌≡◌, refl, ◌++◌}
 use Rattle.medium.specs.Geometry.{geometry_ok, admit}
 use Rattle.medium.specs.Medium.{readable, read_at}
 use Rattle.medium.specs.Bench.{all}

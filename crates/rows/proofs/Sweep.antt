@@ -1,5 +1,5 @@
 -- The rows of specs/Sweep.antt, computed.
-use Rattle.std.specs.Prelude.{true, ◌≡◌, refl, ◌++◌, ◌+◌}
+use Rattle.std.specs.Prelude.{true, ◌≡◌, refl, ◌++◌}
 use Rattle.medium.specs.Geometry.{geometry_ok, admit}
 use Rattle.medium.specs.Operation.{◌>>=◌, ask, test, putting, run}
 use Rattle.medium.specs.Strict.{not_erased}

@@ -1,20 +1,13 @@
 -- The rows of a batch: its order of refusals, what is done at each cut, and ranges and types that look right.
-use Rattle.std.specs.Prelude.{Bool, true, ◌&&◌, ◌≡◌, refl, List, [], ◌∷◌, ◌++◌, ℕ, replicate}
+use Rattle.std.specs.Prelude.{Bool, ◌&&◌, List, [], ◌∷◌, ◌++◌, ℕ, replicate}
 use Rattle.medium.specs.declared.granularity.Granularity.TheVariants.{Bit, Word4}
 use Rattle.medium.specs.declared.geometry.Geometry.{Geometry}
 use Rattle.medium.specs.declared.fuse.Fuse.{Fuse}
 use Rattle.medium.specs.declared.fuse.Fuse.TheVariants.{Absent, Units}
-use Rattle.medium.specs.Geometry.{geometry_ok, admit}
-use Rattle.medium.specs.Operation.{◌>>=◌, ask, test, putting, run}
-use Rattle.medium.specs.Strict.{not_erased}
-use Rattle.medium.specs.Medium.{readable, writable, storable, read_at, write}
-use Rattle.medium.specs.Beside.{both, on_image}
-use Rattle.medium.specs.Bench.{blocks, holding, all, same, ends}
-use Rattle.objects.specs.Types.{type_of, object_type_of, mark_of, pair_of, marks_of, state_in}
-use Rattle.objects.specs.Header.{state_at, allocatable_of, payload_of, payload_size_of, marking, set_state, sizable_of, set_payload_size}
-use Rattle.objects.specs.Info.{total_of}
-use Rattle.writer.specs.Writer.{sound_of, allocate, may_write, put_bytes, write_some, may_finish, flush, close, finalize, write_to}
-use Rattle.batch.specs.Batch.{records_in, batchable, lent_to, write_record, writing, write_all}
+use Rattle.medium.specs.Operation.{run}
+use Rattle.medium.specs.Beside.{both}
+use Rattle.medium.specs.Bench.{blocks, holding, same, ends}
+use Rattle.batch.specs.Batch.{write_all}
 
 -- one block of 64 bytes, and the payload ABC
 abbrev chip : Geometry

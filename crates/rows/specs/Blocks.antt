@@ -1,23 +1,16 @@
 -- The rows of blocks: what a format leaves at each of its branches, and what scans give.
-use Rattle.std.specs.Prelude.{Bool, true, false, ◌≡◌, refl, List, [], ◌∷◌, ◌++◌, ℕ, replicate, eqb}
+use Rattle.std.specs.Prelude.{Bool, false, List, [], ◌∷◌, ◌++◌, ℕ, replicate, eqb}
 use Rattle.medium.specs.declared.granularity.Granularity.{Granularity}
 use Rattle.medium.specs.declared.granularity.Granularity.TheVariants.{Bit, Word1, Word4}
 use Rattle.medium.specs.declared.geometry.Geometry.{Geometry}
 use Rattle.medium.specs.declared.fuse.Fuse.TheVariants.{Absent, Units}
-use Rattle.medium.specs.Geometry.{geometry_ok, admit}
-use Rattle.medium.specs.Operation.{Answer, done, refused, ◌>>=◌, ask, test, putting, run, number_of}
-use Rattle.medium.specs.Strict.{not_erased}
-use Rattle.medium.specs.Medium.{readable, writable, storable, erasable, read_at, write, erase}
-use Rattle.medium.specs.Bench.{blocks, holding, all, same, row}
-use Rattle.objects.specs.Types.{type_of, mark_of, pair_of, marks_of, state_in}
-use Rattle.objects.specs.Header.{state_at, sized_at, header_at, payload_of}
-use Rattle.objects.specs.Info.{info_at, total_of}
-use Rattle.objects.specs.Listing.{next_of, list_from, listing}
+use Rattle.medium.specs.Operation.{Answer, done, refused, number_of}
+use Rattle.medium.specs.Bench.{blocks, holding, same, row}
 use Rattle.blocks.specs.declared.record.BlockInfo.{BlockInfo}
-use Rattle.blocks.specs.BlockHeader.{kind_number, header_bytes, write_header, padded, marked, blank, kind_of_type, named_kind, kind_in, block_header_at}
+use Rattle.blocks.specs.BlockHeader.{kind_number}
 use Rattle.blocks.specs.Record.{allow_number}
-use Rattle.blocks.specs.Format.{data_empty_at, again, plan_known, plan_of, plan_at, labelling, renewing, format_block, format_from, format_storage}
-use Rattle.blocks.specs.Scan.{scan_unknown, scan_block, calculate_freeable_space}
+use Rattle.blocks.specs.Format.{format_block, format_storage}
+use Rattle.blocks.specs.Scan.{scan_block, calculate_freeable_space}
 
 -- one block of 64 bytes
 abbrev pub one : Granularity → Geometry

@@ -1,28 +1,17 @@
 -- The rows of the collector: row 13, the erase count's last value, and what a cut leaves: image and table as the sequence of units and fields
 -- has them.
-use Rattle.std.specs.Prelude.{Bool, true, ◌&&◌, ◌≡◌, refl, List, [], ◌∷◌, ◌++◌, ℕ, eqb}
+use Rattle.std.specs.Prelude.{Bool, ◌&&◌, List, [], ◌∷◌, ◌++◌, ℕ, eqb}
 use Rattle.medium.specs.declared.granularity.Granularity.{Granularity}
 use Rattle.medium.specs.declared.granularity.Granularity.TheVariants.{Bit, Word1}
 use Rattle.medium.specs.declared.geometry.Geometry.{Geometry}
 use Rattle.medium.specs.declared.fuse.Fuse.{Fuse}
 use Rattle.medium.specs.declared.fuse.Fuse.TheVariants.{Absent, Units}
-use Rattle.medium.specs.Geometry.{geometry_ok, admit}
-use Rattle.medium.specs.Operation.{◌>>=◌, ask, test, putting, run, number_of}
-use Rattle.medium.specs.Strict.{not_erased}
-use Rattle.medium.specs.Medium.{readable, writable, storable, erasable, read_at, write, erase}
-use Rattle.medium.specs.Beside.{both, on_image}
-use Rattle.medium.specs.Bench.{blocks, all, same, ends}
-use Rattle.objects.specs.Types.{type_of, mark_of, pair_of, marks_of, state_in}
-use Rattle.objects.specs.Header.{state_at, sized_at, header_at, payload_size_of, payload_of, marking, set_state, staying, update_state, sizable_of, set_payload_size}
-use Rattle.objects.specs.Info.{info_at, total_of}
-use Rattle.objects.specs.Listing.{next_of, list_from, listing}
-use Rattle.blocks.specs.BlockHeader.{header_bytes, write_header, padded, marked, blank, kind_of_type, named_kind, kind_in, block_header_at}
-use Rattle.blocks.specs.Format.{data_empty_at, again, plan_known, plan_of, plan_at, labelling, format_block}
-use Rattle.blocks.specs.Format as format
-use Rattle.blocks.specs.Record.{kind_of, info_of}
-use Rattle.blocks.specs.Scan.{scan_unknown, scan_block}
-use Rattle.collector.specs.Table.{Pass, record_at, storing, allowing, possible_from, collectable}
-use Rattle.collector.specs.Passes.{repair_by, repairing, repaired, visit_one, deleting, delete_invalid_objects_in_block, worn_out, formatting, renewing, erasing, erase_invalid_finished_block, erase_full_finished_block, block_step, sweep, pass, delete_invalid_objects, erase_invalid_finished_blocks, erase_full_finished_blocks, collect}
+use Rattle.medium.specs.Operation.{run, number_of}
+use Rattle.medium.specs.Beside.{both}
+use Rattle.medium.specs.Bench.{blocks, same, ends}
+use Rattle.blocks.specs.Scan.{scan_block}
+use Rattle.collector.specs.Table.{Pass}
+use Rattle.collector.specs.Passes.{delete_invalid_objects, erase_invalid_finished_blocks, erase_full_finished_blocks, collect}
 use Rattle.rows.specs.Blocks.{one, starting, scanned}
 
 -- a Data block that was never erased, with the layout byte of Bit or of either Word

@@ -1,13 +1,11 @@
 -- The rows of the medium: images of 1,024 bytes, blocks of 256.
-use Rattle.std.specs.Prelude.{Bool, true, ◌≡◌, refl, List, [], ◌∷◌, ℕ, replicate, eqb}
+use Rattle.std.specs.Prelude.{Bool, List, [], ◌∷◌, ℕ, replicate, eqb}
 use Rattle.medium.specs.declared.granularity.Granularity.TheVariants.{Bit, Word1, Word4}
 use Rattle.medium.specs.declared.geometry.Geometry.{Geometry}
 use Rattle.medium.specs.declared.fuse.Fuse.TheVariants.{Absent, Units}
-use Rattle.medium.specs.Geometry.{geometry_ok, admit, fit_of}
-use Rattle.medium.specs.Operation.{Answer, done, refused, ask, putting, run}
-use Rattle.medium.specs.Strict.{not_erased}
-use Rattle.medium.specs.Medium.{readable, writable, storable, erasable, aligned_of, read_at, lent, write, erase}
-use Rattle.medium.specs.Bench.{four, filled, holding, all, same, row}
+use Rattle.medium.specs.Operation.{Answer, done, refused}
+use Rattle.medium.specs.Medium.{aligned_of, read_at, lent, write, erase}
+use Rattle.medium.specs.Bench.{four, filled, holding, same, row}
 
 abbrev sized : ℕ → Geometry
 sized n = record { granularity = Bit; s = 1; c = 1; strict = 0; size = n; count = 4 }

@@ -1,15 +1,11 @@
 -- The starred rows, as one table under one theorem, over the definitions that the contracts cite. Each row is a test of what these compute.
-use Rattle.std.specs.Prelude.{Bool, true, false, ◌&&◌, not, ◌≡◌, refl, List, [], ◌∷◌, ◌++◌, ℕ, ◌+◌, ◌-◌, get_or, replicate, eqb}
+use Rattle.std.specs.Prelude.{Bool, true, false, ◌&&◌, not, List, [], ◌∷◌, ◌++◌, ℕ, ◌+◌, ◌-◌, get_or, replicate, eqb}
 use Rattle.medium.specs.declared.granularity.Granularity.{Granularity}
 use Rattle.medium.specs.declared.granularity.Granularity.TheVariants.{Bit, Word1, Word4}
 use Rattle.medium.specs.declared.fuse.Fuse.TheVariants.{Absent, Units}
-use Rattle.medium.specs.Geometry.{geometry_ok, admit, fit_of}
-use Rattle.medium.specs.Operation.{Answer, done, refused, Op, ◌>>=◌, ◌>>◌, ask, test, putting, refuse, run, number_of}
-use Rattle.medium.specs.Strict.{not_erased}
-use Rattle.medium.specs.Medium.{readable, writable, storable, erasable, read_at, write, erase}
-use Rattle.medium.specs.Bench.{four, holding, all, same, row, quiet}
+use Rattle.medium.specs.Operation.{Answer, done, refused, Op, ◌>>=◌, refuse, run, number_of}
+use Rattle.medium.specs.Bench.{four, holding, same, row, quiet}
 use Rattle.objects.specs.declared.types.ObjectType.TheVariants.{FileData}
-use Rattle.objects.specs.declared.state.ObjectDataState.TheVariants.{Deleted}
 use Rattle.objects.specs.declared.state.ObjectState.TheVariants as state
 use Rattle.objects.specs.declared.state.CompositeObjectState.{CompositeObjectState}
 use Rattle.objects.specs.declared.state.CompositeObjectState.TheVariants as comp
@@ -18,19 +14,18 @@ use Rattle.objects.specs.declared.header.ObjectHeader.{ObjectHeader}
 use Rattle.objects.specs.declared.reader.ObjectReader.{ObjectReader}
 use Rattle.objects.specs.declared.header.PayloadSize.{PayloadSize}
 use Rattle.objects.specs.declared.header.PayloadSize.TheVariants.{Set, Unset}
-use Rattle.objects.specs.Types.{type_byte, type_of, mark_of, pair_of, marks_of, state_in, rank_of}
-use Rattle.objects.specs.Header.{state_at, sized_at, header_at, payload_size_of, payload_of, allocatable_of, marking, set_state, staying, update_state, sizable_of, set_payload_size}
+use Rattle.objects.specs.Types.{type_byte, rank_of}
+use Rattle.objects.specs.Header.{state_at, header_at, payload_size_of, update_state}
 use Rattle.objects.specs.Info.{info_at, total_of, span_of}
-use Rattle.objects.specs.Reader.{Chunk, reader_at, remaining_of, left_of, read_some}
-use Rattle.objects.specs.Listing.{next_of, Visit, Stop, end, free, broken, list_from, listing}
+use Rattle.objects.specs.Reader.{Chunk, reader_at, read_some}
+use Rattle.objects.specs.Listing.{Visit, Stop, end, free, broken, listing}
 use Rattle.blocks.specs.declared.header.BlockHeader.{BlockHeader}
 use Rattle.blocks.specs.declared.header.BlockType.TheVariants.{Metadata}
-use Rattle.blocks.specs.BlockHeader as header
-use Rattle.blocks.specs.BlockHeader.{kind_number, header_bytes, write_header, padded, marked, kind_of_type, named_kind, block_header_at}
-use Rattle.blocks.specs.Format.{data_empty_at, again, plan_known, plan_of, plan_at, labelling, renewing, format_block, set_block_type}
+use Rattle.blocks.specs.BlockHeader.{kind_number, block_header_at}
+use Rattle.blocks.specs.Format.{format_block, set_block_type}
 use Rattle.writer.specs.declared.writer.ObjectWriter.{ObjectWriter}
-use Rattle.writer.specs.Writer.{sound_of, allocate, may_write, put_bytes, write_some, may_finish, flush, close, finalize, delete, write_to}
-use Rattle.moving.specs.Moving.{source_at, chunk, copying, copy_object, move_object}
+use Rattle.writer.specs.Writer.{allocate, write_some, finalize, delete, write_to}
+use Rattle.moving.specs.Moving.{move_object}
 
 -- ---- A is `four Bit`, B is `four Word4`, C is `four Word1`
 

@@ -1,24 +1,14 @@
 -- The rows of files by their names: which object a lookup finds, what a read joins and what it leaves, and how the list of names ends.
-use Rattle.std.specs.Prelude.{Bool, true, ◌&&◌, ◌≡◌, refl, List, [], ◌∷◌, ◌++◌, ℕ, ◌+◌, ◌*◌, length, replicate, eqb}
+use Rattle.std.specs.Prelude.{Bool, ◌&&◌, List, [], ◌∷◌, ◌++◌, ℕ, ◌+◌, ◌*◌, length, replicate, eqb}
 use Rattle.medium.specs.declared.granularity.Granularity.TheVariants.{Bit}
 use Rattle.medium.specs.declared.geometry.Geometry.{Geometry}
-use Rattle.medium.specs.Geometry.{geometry_ok, admit}
 use Rattle.medium.specs.Operation.{Answer, done, refused, number_of}
-use Rattle.medium.specs.Medium.{readable, read_at}
-use Rattle.medium.specs.Bench.{blocks, holding, all, same}
+use Rattle.medium.specs.Bench.{blocks, holding, same}
 use Rattle.objects.specs.declared.location.ObjectLocation.{ObjectLocation}
-use Rattle.objects.specs.Types.{type_of, mark_of, pair_of, marks_of, state_in}
-use Rattle.objects.specs.Header.{state_at, sized_at, header_at, payload_size_of, payload_of}
-use Rattle.objects.specs.Info.{info_at, total_of}
-use Rattle.objects.specs.Payload.{read_payload, equal}
-use Rattle.objects.specs.Reader.{reader_at}
-use Rattle.objects.specs.Metadata.{number_at, location_at, read_metadata, metadata_at, listable, next_location}
-use Rattle.objects.specs.Listing.{placed, next_of, list_from}
-use Rattle.blocks.specs.BlockHeader.{padded, marked, blank, kind_of_type, named_kind, kind_in, block_header_at}
-use Rattle.storage.specs.Order.{open_tour, is_of, open_of, blocks_tour, tour_from, next_visit}
-use Rattle.storage.specs.Lookup.{same_from, is_name, is_named, lookup}
-use Rattle.storage.specs.File.{places_from, gather, read_file, put_into, sizes, file_size}
-use Rattle.storage.specs.Names.{Named, name, nameless, name_at, name_of, next_name}
+use Rattle.objects.specs.Listing.{placed}
+use Rattle.storage.specs.Lookup.{lookup}
+use Rattle.storage.specs.File.{read_file, put_into, file_size}
+use Rattle.storage.specs.Names.{Named, name, nameless, next_name}
 
 -- ---- the store: a Metadata block, and a Data block with names and data
 

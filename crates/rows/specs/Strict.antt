@@ -1,16 +1,13 @@
 -- The rows of the strict mark: blocks of 64 bytes under Word(1) and Word(4) of a chip that programs no unit twice.
-use Rattle.std.specs.Prelude.{Bool, true, false, ◌&&◌, ◌≡◌, refl, List, [], ◌∷◌, ◌++◌, ℕ, replicate}
+use Rattle.std.specs.Prelude.{Bool, false, ◌&&◌, List, [], ◌∷◌, ◌++◌, ℕ, replicate}
 use Rattle.medium.specs.declared.granularity.Granularity.{Granularity}
 use Rattle.medium.specs.declared.granularity.Granularity.TheVariants.{Bit, Word1, Word4}
 use Rattle.medium.specs.declared.geometry.Geometry.{Geometry}
-use Rattle.medium.specs.declared.fuse.Fuse.{Fuse}
 use Rattle.medium.specs.declared.fuse.Fuse.TheVariants.{Absent, Units}
-use Rattle.medium.specs.Geometry.{geometry_ok, admit}
-use Rattle.medium.specs.Operation.{◌>>=◌, ask, test, putting, Op, run}
-use Rattle.medium.specs.Strict.{not_erased}
-use Rattle.medium.specs.Medium.{readable, writable, storable, erasable, read_at, write, erase}
+use Rattle.medium.specs.Operation.{Op, run}
+use Rattle.medium.specs.Medium.{write, erase}
 use Rattle.medium.specs.Marked.{with_strict}
-use Rattle.medium.specs.Beside.{both, on_image}
+use Rattle.medium.specs.Beside.{both}
 use Rattle.medium.specs.Bench.{blocks, holding, all, same, ends, row}
 use Rattle.objects.specs.declared.types.ObjectType.TheVariants.{FileData}
 use Rattle.objects.specs.declared.state.ObjectDataState.TheVariants.{Untrusted, Valid}
@@ -18,24 +15,14 @@ use Rattle.objects.specs.declared.state.CompositeObjectState.TheVariants as comp
 use Rattle.objects.specs.declared.state.ObjectState.TheVariants as state
 use Rattle.objects.specs.declared.location.ObjectLocation.{ObjectLocation}
 use Rattle.objects.specs.declared.header.ObjectHeader.{ObjectHeader}
-use Rattle.objects.specs.Types.{type_of, object_type_of, mark_of, pair_of, marks_of, state_in}
-use Rattle.objects.specs.Header.{state_at, sized_at, header_at, payload_size_of, payload_of, allocatable_of, marking, set_state, staying, update_state, sizable_of, set_payload_size}
-use Rattle.objects.specs.Info.{info_at, total_of}
-use Rattle.objects.specs.Reader.{reader_at, remaining_of, left_of, read_some}
-use Rattle.objects.specs.Listing.{next_of, list_from, listing}
+use Rattle.objects.specs.Header.{update_state, set_payload_size}
 use Rattle.blocks.specs.declared.header.BlockType.TheVariants.{Metadata, Undefined}
-use Rattle.blocks.specs.BlockHeader.{header_bytes, write_header, padded, marked, blank, kind_of_type, named_kind, kind_in, block_header_at}
-use Rattle.blocks.specs.Format.{data_empty_at, again, plan_known, plan_of, plan_at, labelling, renewing, format_block, set_block_type}
-use Rattle.blocks.specs.Record.{kind_of, info_of}
+use Rattle.blocks.specs.Format.{format_block, set_block_type}
 use Rattle.writer.specs.declared.writer.ObjectWriter.{ObjectWriter}
-use Rattle.writer.specs.Writer.{sound_of, allocate, may_write, put_bytes, write_some, may_finish, flush, close, finalize, delete, write_to}
-use Rattle.moving.specs.Moving.{source_at, chunk, copying, copy_object, move_object}
-use Rattle.collector.specs.Table.{record_at, storing, allowing, possible_from, collectable}
-use Rattle.collector.specs.Passes.{repair_by, repairing, repaired, visit_one, deleting, delete_invalid_objects_in_block, block_step, sweep, pass, delete_invalid_objects}
-use Rattle.batch.specs.Batch.{records_in, batchable, lent_to, write_record, writing, write_all}
-use Rattle.storage.specs.Order.{open_tour, is_of, open_of, blocks_tour, tour_from}
-use Rattle.sweep.specs.Referring.{listings, sweepable}
-use Rattle.sweep.specs.Twins as plan
+use Rattle.writer.specs.Writer.{allocate, write_some, delete, write_to}
+use Rattle.moving.specs.Moving.{move_object}
+use Rattle.collector.specs.Passes.{delete_invalid_objects}
+use Rattle.batch.specs.Batch.{write_all}
 use Rattle.sweep.specs.Sweep as twins
 
 abbrev chip : ℕ → Granularity → Geometry

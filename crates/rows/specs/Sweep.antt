@@ -1,31 +1,16 @@
 -- The rows of a sweep: which one of a street's twins stays and what is no twin, what counts as referred to, the order of refusals and of stores, and
 -- what is left at a cut.
-use Rattle.std.specs.Prelude.{Bool, true, ◌&&◌, ◌≡◌, refl, List, [], ◌∷◌, ◌++◌, ℕ, ◌+◌, ◌*◌, length}
+use Rattle.std.specs.Prelude.{Bool, ◌&&◌, List, [], ◌∷◌, ◌++◌, ℕ, ◌+◌, ◌*◌, length}
 use Rattle.medium.specs.declared.granularity.Granularity.TheVariants.{Bit}
 use Rattle.medium.specs.declared.geometry.Geometry.{Geometry}
 use Rattle.medium.specs.declared.fuse.Fuse.{Fuse}
 use Rattle.medium.specs.declared.fuse.Fuse.TheVariants.{Absent, Units}
-use Rattle.medium.specs.Geometry.{geometry_ok, admit}
-use Rattle.medium.specs.Operation.{Answer, done, refused, ◌>>=◌, ask, test, putting, run}
-use Rattle.medium.specs.Strict.{not_erased}
-use Rattle.medium.specs.Medium.{readable, writable, storable, read_at, write}
-use Rattle.medium.specs.Beside.{both, on_image}
-use Rattle.medium.specs.Bench.{blocks, holding, all, same, ends}
+use Rattle.medium.specs.Operation.{Answer, done, refused, run}
+use Rattle.medium.specs.Beside.{both}
+use Rattle.medium.specs.Bench.{blocks, holding, same, ends}
 use Rattle.objects.specs.declared.location.ObjectLocation.{ObjectLocation}
-use Rattle.objects.specs.Types.{type_of, mark_of, pair_of, marks_of, state_in}
-use Rattle.objects.specs.Header.{state_at, sized_at, header_at, payload_size_of, payload_of, marking, set_state, update_state}
-use Rattle.objects.specs.Info.{info_at, total_of}
-use Rattle.objects.specs.Payload.{payload_readable, read_payload, equal, same_payload}
-use Rattle.objects.specs.Reader.{reader_at}
-use Rattle.objects.specs.Metadata.{number_at, location_at, read_metadata, listable, next_location}
-use Rattle.objects.specs.Listing.{next_of, list_from}
-use Rattle.blocks.specs.BlockHeader.{padded, marked, blank, kind_of_type, named_kind, kind_in, block_header_at}
-use Rattle.storage.specs.Order.{open_tour, is_of, open_of, blocks_tour, tour_from}
-use Rattle.storage.specs.Lookup.{same_from, is_name, is_named, lookup}
-use Rattle.storage.specs.File.{places_from}
-use Rattle.sweep.specs.Referring.{locations_of, is_whole, is_listed, is_sound, listings, sweepable}
-use Rattle.sweep.specs.Twins.{is_twin, twins, is_referred, unreferred}
-use Rattle.sweep.specs.Sweep.{deleting, deleting_twins, deleting_unreferred, sweep, words_fit, sweep_with, words_after}
+use Rattle.storage.specs.Lookup.{lookup}
+use Rattle.sweep.specs.Sweep.{sweep, words_fit, sweep_with, words_after}
 
 -- ---- the store: a Metadata block, a Data block, and a third one
 
