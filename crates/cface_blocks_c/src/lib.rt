@@ -1,0 +1,8 @@
+// The archive libcface_blocks.a: each function of crates/cface_blocks, with its contract, under its name for C. A crate is a library or a static library
+// and not both, so that one has the functions for Rattle, and this one hands each call on.
+// Made by tools/cface.
+#![tactic(auto)]
+
+mod block_calls;
+mod collector_calls;
+mod record_calls;
