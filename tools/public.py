@@ -4,7 +4,7 @@ import glob
 import os
 import re
 
-from common import ITEM, code, past, read
+from common import ITEM, code, listed, past, read
 
 CLAUSE = re.compile(r'\s*\b(requires|ensures)\b[^{]*\{')
 
@@ -39,9 +39,8 @@ def clauses(text, at):
 
 
 def libraries():
-    """The library crates that crates.txt lists, in its order."""
-    names = [line.split('#')[0].partition(':')[0].strip() for line in read('crates.txt').splitlines()]
-    return [n for n in names if n and os.path.isfile(f'crates/{n}/src/lib.rt')]
+    """The library crates that crates.txt lists, in its order. A static library only hands on what a library has, and nothing can stand on it."""
+    return [name for name, words, _ in listed() if 'staticlib' not in words and os.path.isfile(f'crates/{name}/src/lib.rt')]
 
 
 def public(crate):
