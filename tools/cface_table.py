@@ -12,39 +12,39 @@ A row is a function:
   means    the definition that its contract cites, over g, the value and the parameters
   leaves   what a call leaves in numbers that are lent, over g and the parameters as they went in
   hand     how the answer goes out (HANDS), where `calls` does not do it itself: then `as` or `by` says how the values cross
-  before   lines of code before the call, with `needs` of calls in them
+  before   lines of code before the call
   told     what the call's promise gives, where it is not just the definition; `ended` the same of a store
-  small    why a number that goes out fits its place, where it is wider in the library
+  small    why a number that goes out fits its place, where it is wider in the library: {called} is the call, {told} its promise
   homes    'crate word' for a word of the contract that stands in more crates than one
 """
 
-# ---- values that are read from numbers: the code, the definition, the need of its call
+# ---- values that are read from numbers: the code, the definition, and the function that reads
 
-def value(var, of, read, means, need, **more):
+def value(var, of, read, means, reads, **more):
     code = f'let of = {read};\nlet {of}({var}) = of else {{\n    return {{refuse}}of.number());\n}};'
     code = code.replace('{\n', '{{\n').replace('\n};', '\n}};')
-    return dict(var=var, code=code, means=means, need=need, **more)
+    return dict(var=var, code=code, means=means, case=of.split('::')[-1], reads=reads, **more)
 
 
 VALUES = {
-    'header': value('h', 'HeaderRead::Got', 'values::header_of(header)', 'header_of header', 'header-of',
+    'header': value('h', 'HeaderRead::Got', 'values::header_of(header)', 'header_of header', 'header_of',
                     uses={'HeaderRead': 'objects::header::HeaderRead'}),
-    'target': value('t', 'TargetRead::Got', 'values::target_of(header, state)', 'target_of header state', 'target-of',
+    'target': value('t', 'TargetRead::Got', 'values::target_of(header, state)', 'target_of header state', 'target_of',
                     uses={'TargetRead': 'crossing::values::TargetRead'}),
-    'reader': value('r', 'ReaderRead::Got', 'values::reader_of(reader)', 'reader_of reader', 'reader-of',
+    'reader': value('r', 'ReaderRead::Got', 'values::reader_of(reader)', 'reader_of reader', 'reader_of',
                     uses={'ReaderRead': 'objects::reader::ReaderRead'}),
-    'metadata': value('m', 'MetadataRead::Got', 'values::metadata_of(metadata)', 'metadata_of metadata', 'metadata-of',
+    'metadata': value('m', 'MetadataRead::Got', 'values::metadata_of(metadata)', 'metadata_of metadata', 'metadata_of',
                       uses={'MetadataRead': 'objects::metadata::MetadataRead'}),
-    'record': value('r', 'BlockInfoRead::Got', 'records::record_of(record)', 'record_of record', 'record-of',
+    'record': value('r', 'BlockInfoRead::Got', 'records::record_of(record)', 'record_of record', 'record_of',
                     uses={'BlockInfoRead': 'blocks::record::BlockInfoRead'}),
-    'type': value('t', 'ObjectTypeRead::Got', 'ObjectType::of_number(kind as u32)', 'object_type_of kind', 'of-number',
+    'type': value('t', 'ObjectTypeRead::Got', 'ObjectType::of_number(kind as u32)', 'object_type_of kind', 'of_number',
                   uses={'ObjectTypeRead': 'objects::types::ObjectTypeRead', 'ObjectType': 'objects::types::ObjectType'}),
-    'block_type': value('t', 'BlockTypeRead::Got', 'records::type_of(kind)', 'block_type_of kind', 'type-of',
+    'block_type': value('t', 'BlockTypeRead::Got', 'records::type_of(kind)', 'block_type_of kind', 'type_of',
                         uses={'BlockTypeRead': 'crossing::records::BlockTypeRead'}),
-    'kind': value('k', 'KindRead::Got', 'BlockHeaderKind::of_number(kind)', 'kind_of kind', 'of-number',
+    'kind': value('k', 'KindRead::Got', 'BlockHeaderKind::of_number(kind)', 'kind_of kind', 'of_number',
                   uses={'KindRead': 'blocks::header::KindRead', 'BlockHeaderKind': 'blocks::header::BlockHeaderKind'}),
     # a writer holds an array, so it stands beside the answer of its reading
-    'writer': dict(var='w', writer=True, means='writer_of writer', need='writer-of', uses={'Answered': 'medium::fuse::Answered'},
+    'writer': dict(var='w', means='writer_of writer', case='Done', reads='writer_of', uses={'Answered': 'medium::fuse::Answered'},
                    code='let of = writers::writer_of(writer);\nlet read = of.answer;\nlet Answered::Done = read else {{\n'
                         '    return {refuse}read.number());\n}};\nlet w = of.writer;'),
 }
@@ -120,7 +120,7 @@ WRITERS = [
               'the strict mark the second is 10, and the first where its unit is programmed.',
          place='store', params='block offset kind:type writer>writer', value='type',
          calls='writer::writer::ObjectWriter::allocate', args='g, image, f, at, t', means='allocate g at t', hand='new_writer',
-         small='small-by _ _ _ _ (@allocate .result .answer) (@allocate .result .writer) (@allocate .ensures .0) (allocate-small _ _ _ _ _)'),
+         small='small_by _ _ _ _ {called}.result.answer {called}.result.writer {told} (allocate_small _ _ _ _ _)'),
     dict(name='writer_space', says='The payload bytes that still fit; 9 where the writer stands past the end of its block.', place='alone',
          params='writer<writer space>u64', value='writer', calls='writer::writer::ObjectWriter::space', on='w', args='g',
          means='space_of g w', hand='count'),
@@ -134,24 +134,24 @@ WRITERS = [
               'bytes fill is a store of its own: 10 of the words behind it leaves it there.',
          place='store', params='writer=writer src[]', value='writer', calls='writer::writer::ObjectWriter::write', on='w',
          args='g, image, f, src', means='write_some g w src', hand='writer',
-         small='small-by _ _ _ _ (@write .result .answer) (@write .result .writer) (@write .ensures .0) (some-small _ _ _ _ _)'),
+         small='small_by _ _ _ _ {called}.result.answer {called}.result.writer {told} (some_small _ _ _ _ _)'),
     dict(name='writer_finalize', says='Ends the object: what is held, the size, and the mark of a Finalized object; each store can be 10.',
          place='store', params='writer=writer', value='writer', calls='writer::writer::ObjectWriter::finalize', on='w', args='g, image, f',
          means='finalize g w', hand='writer',
-         small='small-by _ _ _ _ (@finalize .result .answer) (@finalize .result .writer) (@finalize .ensures .0) (finalize-small _ _ _ _)'),
+         small='small_by _ _ _ _ {called}.result.answer {called}.result.writer {told} (finalize_small _ _ _ _)'),
     dict(name='writer_delete',
          says='Deletes the object: one that is not Finalized gets its size first; of one that is Free or Deleted nothing is stored. Each store '
               'can be 10.',
          place='store', params='writer=writer', value='writer', calls='writer::writer::ObjectWriter::delete', on='w', args='g, image, f',
          means='delete g w', hand='writer',
-         small='small-by _ _ _ _ (@delete .result .answer) (@delete .result .writer) (@delete .ensures .0) (delete-small _ _ _ _)'),
+         small='small_by _ _ _ _ {called}.result.answer {called}.result.writer {told} (delete_small _ _ _ _)'),
 ]
 
 READERS = [
     dict(name='reader_new', says='A reader of the Finalized object at a place, or of any object that is there.', place='image',
          params='block offset allow_non_finalized:bool reader>reader', calls='objects::reader::ObjectReader::new',
          args='g, image, at, allow_non_finalized', means='reader_at g at allow_non_finalized image', hand='reader',
-         small='new-small _ _ _ _ (@new .result) (@new .ensures)'),
+         small='new_small _ _ _ _ {called}.result {told}'),
     dict(name='reader_len', says='The payload size of the reader\'s object, 0 where it is unset.', place='alone',
          params='reader<reader len>u64', value='reader', calls='objects::reader::ObjectReader::len', on='r', args='g',
          means='reader_len g r', hand='count'),
@@ -181,16 +181,16 @@ INFOS = [
 METADATA = [
     dict(name='info_read_metadata', says='Path hash and name location of an object that is known by its header.', place='image',
          params='header<header metadata>metadata', value='header', calls='objects::metadata::read', args='g, image, h',
-         means='read_metadata g h image', hand='metadata', small='metadata-small _ _ _ (@read .result) (@read .ensures)'),
+         means='read_metadata g h image', hand='metadata', small='metadata_small _ _ _ {called}.result {told}'),
     dict(name='location_read_metadata', says='The same of the object at a place; a Free place is 2.', place='image',
          params='block offset metadata>metadata', calls='objects::metadata::read_at', args='g, image, at', means='metadata_at g at image',
-         hand='metadata', small='metadata-at-small _ _ _ (@read-at .result) (@read-at .ensures)'),
+         hand='metadata', small='metadata_at_small _ _ _ {called}.result {told}'),
     dict(name='metadata_next_object_location',
          says='The location of the next data object: *found is 1 with it, or 0 at the end of the list (then metadata and location stay).',
          place='image', params='metadata=metadata found>u32 location>location', value='metadata',
          calls='objects::metadata::MetadataObjectHeader::next_object_location', on='m', args='g, image',
          means='next_location g m image', hand='next_location',
-         small='next-small _ _ _ (@next-object-location .result) (@next-object-location .ensures)'),
+         small='next_small _ _ _ {called}.result {told}'),
     dict(name='metadata_reset', says='Back to the first data object.', place='alone', params='metadata=metadata',
          calls='cface::cursors::reset', args='g, metadata', means='fitting g (reset_in metadata)', **{'as': 'metadata_numbers'}),
 ]
@@ -203,7 +203,7 @@ ITERATORS = [
               'stay: *found is 0 at a free place, and 2 at the end of the block.',
          place='image', params='iterator=iterator found>u32 header>header', before='let i = values::iterator_of(iterator);',
          calls='objects::iterator::ObjectIterator::next', on='i', args='g, image', means='next_of g (iterator_of iterator) image',
-         hand='next', needs=['iterator-of-requires'], told='@iterator-of .ensures, ← {}'),
+         hand='next', told='c.iterator_of-i.ensures, ← {}'),
 ]
 
 MOVING = [
@@ -211,7 +211,7 @@ MOVING = [
          says='An object of a type (8F, 8E or 8D, else 4), written whole: *total_size is its header and payload together. The type is stored '
               'first, and 5, where the payload does not fit, leaves it there; 10 of a later store leaves those before it.',
          place='store', params='block offset kind:type src[] total_size>u64', value='type', calls='writer::writer::ObjectWriter::write_to',
-         args='g, image, f, at, t, src', means='write_to g at t src', hand='total', ended='wrote-ended (@write-to .result) _ ∙ {}'),
+         args='g, image, f, at, t, src', means='write_to g at t src', hand='total', ended='wrote_ended c.write_to-a.result _ ∙ {}'),
     dict(name='copy_object',
          says='The Finalized object that a header names, anew at another place: its header there. The type is the one that the header says. '
               '10 leaves what was stored of it.',

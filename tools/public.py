@@ -6,9 +6,9 @@ import re
 
 from common import ITEM, code, listed, past, read
 
-CLAUSE = re.compile(r'\s*\b(requires|ensures)\b[^{]*\{')
+CLAUSE = re.compile(r'\s*\b(requires|ensures)\b\*?\s*(\w*)[^{]*\{')
 
-# name: crate::module::function; clauses: (kind, text) in order; params: (name, type) in order; answers: whether it returns a value
+# name: crate::module::function; clauses: (kind, name or '', text) in order; params: (name, type) in order; answers: whether it returns a value
 Function = collections.namedtuple('Function', 'name clauses params answers')
 
 
@@ -21,13 +21,13 @@ def parameters(text):
 
 
 def clauses(text, at):
-    """The clauses of the function whose name ends at AT, as (kind, text), and the place after its body."""
+    """The clauses of the function whose name ends at AT, as (kind, name, text), and the place after its body."""
     found = []
     while at < len(text):
         m = CLAUSE.match(text, at)
         if m:
             end = past(text, m.end() - 1)
-            found.append((m[1], text[m.end():end - 1]))
+            found.append((m[1], m[2], text[m.end():end - 1]))
             at = end
         elif text[at] == '{':
             return found, past(text, at)
@@ -43,8 +43,8 @@ def libraries():
     return [name for name, words, _ in listed() if 'staticlib' not in words and os.path.isfile(f'crates/{name}/src/lib.rt')]
 
 
-def public(crate):
-    """Each public function of a crate."""
+def public(crate, hidden=False):
+    """Each public function of a crate; HIDDEN: each function that has a body."""
     texts = {f: code(read(f)) for f in sorted(glob.glob(f'crates/{crate}/src/**/*.rt', recursive=True))}
     whole = '\n'.join(texts.values())
     closed = set(re.findall(r'(?<!pub )\bmod\s+(\w+)\s*;', whole))
@@ -58,9 +58,9 @@ def public(crate):
             if m['fn']:
                 told, end = clauses(text, at)
                 path = home + [s for s in stack if s] + [m['fn']]
-                hidden = any(p in closed for p in path[:-1]) and not re.search(rf'\b{m["fn"]}\b', again)
-                shown = (m['access'] or '').strip() == 'pub' and not hidden
-                if end and (shown or m['c']):
+                closed_off = any(p in closed for p in path[:-1]) and not re.search(rf'\b{m["fn"]}\b', again)
+                shown = (m['access'] or '').strip() == 'pub' and not closed_off
+                if end and (hidden or shown or m['c']):
                     behind = past(text, at)
                     inside = text[at:behind].strip()[1:-1]
                     answers = text[behind:].lstrip().startswith('->')

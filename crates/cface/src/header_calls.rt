@@ -12,6 +12,7 @@ use objects::header::{HeaderRead, ObjectHeader};
 use objects::location::ObjectLocation;
 
 // The header at a place.
+#[unsafe(no_mangle)]
 pub extern "C" fn stumpchoir_header_read(
     geometry: &[u32; 6],
     image: &[u8],
@@ -31,6 +32,7 @@ pub extern "C" fn stumpchoir_header_read(
 }
 
 // Stores the mark of a state that lies ahead, or is 10; the present state stores nothing, backwards is 4, Free is 9.
+#[unsafe(no_mangle)]
 pub extern "C" fn stumpchoir_update_state(
     geometry: &[u32; 6],
     image: &mut [u8],
@@ -54,6 +56,7 @@ pub extern "C" fn stumpchoir_update_state(
 }
 
 // Stores the low s bytes of a size that is not set yet, or is 10; one that is set is 4.
+#[unsafe(no_mangle)]
 pub extern "C" fn stumpchoir_set_payload_size(
     geometry: &[u32; 6],
     image: &mut [u8],

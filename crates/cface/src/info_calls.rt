@@ -14,6 +14,7 @@ use objects::info;
 use objects::location::ObjectLocation;
 
 // The object at a place: *found is 1 with its header, or 0 where the place is Free (then the header stays as it was).
+#[unsafe(no_mangle)]
 pub extern "C" fn stumpchoir_info_read(
     geometry: &[u32; 6],
     image: &[u8],
@@ -34,6 +35,7 @@ pub extern "C" fn stumpchoir_info_read(
 }
 
 // Header and payload together, in bytes.
+#[unsafe(no_mangle)]
 pub extern "C" fn stumpchoir_info_total_size(
     geometry: &[u32; 6],
     header: &[u32; 5],
@@ -51,6 +53,7 @@ pub extern "C" fn stumpchoir_info_total_size(
 }
 
 // Stores the mark of a Finalized object, or is 10.
+#[unsafe(no_mangle)]
 pub extern "C" fn stumpchoir_info_finalize(
     geometry: &[u32; 6],
     image: &mut [u8],
@@ -71,6 +74,7 @@ pub extern "C" fn stumpchoir_info_finalize(
 }
 
 // Stores the mark of a Deleted object, or is 10.
+#[unsafe(no_mangle)]
 pub extern "C" fn stumpchoir_info_delete(
     geometry: &[u32; 6],
     image: &mut [u8],

@@ -9,6 +9,7 @@ ghost use Rattle.crossing.specs.Values.{iterator_numbers, next_out, iterator_of}
 use crossing::{call, outs, values};
 
 // An iterator right after the header of a block.
+#[unsafe(no_mangle)]
 pub extern "C" fn stumpchoir_iterator_new(
     geometry: &[u32; 6],
     block: u32,
@@ -22,6 +23,7 @@ pub extern "C" fn stumpchoir_iterator_new(
 
 // The object at the iterator: *found is 1 with its header and the iterator behind it. Where listing stops, iterator and header stay:
 // *found is 0 at a free place, and 2 at the end of the block.
+#[unsafe(no_mangle)]
 pub extern "C" fn stumpchoir_iterator_next(
     geometry: &[u32; 6],
     image: &[u8],

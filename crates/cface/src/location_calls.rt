@@ -10,6 +10,7 @@ use crossing::{call, outs};
 use objects::location::ObjectLocation;
 
 // The bytes of a location: the first c + s of the six are set, and *len is c + s.
+#[unsafe(no_mangle)]
 pub extern "C" fn stumpchoir_location_into_bytes(
     geometry: &[u32; 6],
     block: u32,
@@ -28,6 +29,7 @@ pub extern "C" fn stumpchoir_location_into_bytes(
 }
 
 // The block and offset that c + s bytes say; 9 for another length.
+#[unsafe(no_mangle)]
 pub extern "C" fn stumpchoir_location_from_bytes(
     geometry: &[u32; 6],
     bytes: &[u8],

@@ -11,6 +11,7 @@ use crossing::call;
 use medium::geometry;
 
 // A geometry and the room for it: 0, 6 or 7.
+#[unsafe(no_mangle)]
 pub extern "C" fn stumpchoir_check(geometry: &[u32; 6], image: &[u8]) -> u8
     ensures { result ≡ check_of (geometry_in geometry.now) (length image.now) }
 {
@@ -19,6 +20,7 @@ pub extern "C" fn stumpchoir_check(geometry: &[u32; 6], image: &[u8]) -> u8
 }
 
 // n bytes aligned up to whole units.
+#[unsafe(no_mangle)]
 pub extern "C" fn stumpchoir_align(geometry: &[u32; 6], n: u32, aligned: &mut u64) -> u8
     ensures { told result aligned.new ≡ telling plain aligned.old (aligned_of (geometry_in geometry.now) n) }
 {
@@ -28,6 +30,7 @@ pub extern "C" fn stumpchoir_align(geometry: &[u32; 6], n: u32, aligned: &mut u6
 }
 
 // A range of one block, into the buffer.
+#[unsafe(no_mangle)]
 pub extern "C" fn stumpchoir_read(
     geometry: &[u32; 6],
     image: &[u8],
@@ -42,6 +45,7 @@ pub extern "C" fn stumpchoir_read(
 }
 
 // Programs the bytes of src at a place of a block: one store, so 3, then 10, then 8.
+#[unsafe(no_mangle)]
 pub extern "C" fn stumpchoir_write(
     geometry: &[u32; 6],
     image: &mut [u8],
@@ -60,6 +64,7 @@ pub extern "C" fn stumpchoir_write(
 }
 
 // Sets a block to FF: one unit.
+#[unsafe(no_mangle)]
 pub extern "C" fn stumpchoir_erase(
     geometry: &[u32; 6],
     image: &mut [u8],

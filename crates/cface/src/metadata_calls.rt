@@ -14,6 +14,7 @@ use objects::metadata;
 use objects::metadata::MetadataRead;
 
 // Path hash and name location of an object that is known by its header.
+#[unsafe(no_mangle)]
 pub extern "C" fn stumpchoir_info_read_metadata(
     geometry: &[u32; 6],
     image: &[u8],
@@ -32,6 +33,7 @@ pub extern "C" fn stumpchoir_info_read_metadata(
 }
 
 // The same of the object at a place; a Free place is 2.
+#[unsafe(no_mangle)]
 pub extern "C" fn stumpchoir_location_read_metadata(
     geometry: &[u32; 6],
     image: &[u8],
@@ -51,6 +53,7 @@ pub extern "C" fn stumpchoir_location_read_metadata(
 }
 
 // The location of the next data object: *found is 1 with it, or 0 at the end of the list (then metadata and location stay).
+#[unsafe(no_mangle)]
 pub extern "C" fn stumpchoir_metadata_next_object_location(
     geometry: &[u32; 6],
     image: &[u8],
@@ -70,6 +73,7 @@ pub extern "C" fn stumpchoir_metadata_next_object_location(
 }
 
 // Back to the first data object.
+#[unsafe(no_mangle)]
 pub extern "C" fn stumpchoir_metadata_reset(geometry: &[u32; 6], metadata: &mut [u32; 9]) -> u8
     ensures { told result metadata.new ≡ telling metadata_numbers metadata.old (fitting (geometry_in geometry.now) (reset_in metadata.old)) }
 {

@@ -17,6 +17,7 @@ use writer::writer::ObjectWriter;
 
 // An object of a type (8F, 8E or 8D, else 4), written whole: *total_size is its header and payload together. The type is stored first,
 // and 5, where the payload does not fit, leaves it there; 10 of a later store leaves those before it.
+#[unsafe(no_mangle)]
 pub extern "C" fn stumpchoir_write_to(
     geometry: &[u32; 6],
     image: &mut [u8],
@@ -46,6 +47,7 @@ pub extern "C" fn stumpchoir_write_to(
 
 // The Finalized object that a header names, anew at another place: its header there. The type is the one that the header says. 10 leaves
 // what was stored of it.
+#[unsafe(no_mangle)]
 pub extern "C" fn stumpchoir_copy_object(
     geometry: &[u32; 6],
     image: &mut [u8],
@@ -73,6 +75,7 @@ pub extern "C" fn stumpchoir_copy_object(
 }
 
 // The same, and then the object is deleted where it was; 10 of its delete mark leaves both, the copy finished.
+#[unsafe(no_mangle)]
 pub extern "C" fn stumpchoir_move_object(
     geometry: &[u32; 6],
     image: &mut [u8],

@@ -12,6 +12,7 @@ use objects::location::ObjectLocation;
 use objects::reader::{ObjectReader, ReaderRead};
 
 // A reader of the Finalized object at a place, or of any object that is there.
+#[unsafe(no_mangle)]
 pub extern "C" fn stumpchoir_reader_new(
     geometry: &[u32; 6],
     image: &[u8],
@@ -32,6 +33,7 @@ pub extern "C" fn stumpchoir_reader_new(
 }
 
 // The payload size of the reader's object, 0 where it is unset.
+#[unsafe(no_mangle)]
 pub extern "C" fn stumpchoir_reader_len(geometry: &[u32; 6], reader: &[u32; 6], len: &mut u64) -> u8
     ensures { told result len.new ≡ telling plain len.old (asked (geometry_in geometry.now) (reader_of reader.now) (λ g r. reader_len g r)) }
 {
@@ -45,6 +47,7 @@ pub extern "C" fn stumpchoir_reader_len(geometry: &[u32; 6], reader: &[u32; 6], 
 }
 
 // What is left of the payload; 9 where the cursor is beyond it.
+#[unsafe(no_mangle)]
 pub extern "C" fn stumpchoir_reader_remaining(
     geometry: &[u32; 6],
     reader: &[u32; 6],
@@ -62,6 +65,7 @@ pub extern "C" fn stumpchoir_reader_remaining(
 }
 
 // Back to the start of the payload.
+#[unsafe(no_mangle)]
 pub extern "C" fn stumpchoir_reader_rewind(geometry: &[u32; 6], reader: &mut [u32; 6]) -> u8
     ensures { told result reader.new ≡ telling reader_numbers reader.old (fitting (geometry_in geometry.now) (rewind_of reader.old)) }
 {
@@ -70,6 +74,7 @@ pub extern "C" fn stumpchoir_reader_rewind(geometry: &[u32; 6], reader: &mut [u3
 }
 
 // As much of what is left as the buffer holds, into its first *read bytes.
+#[unsafe(no_mangle)]
 pub extern "C" fn stumpchoir_reader_read(
     geometry: &[u32; 6],
     image: &[u8],

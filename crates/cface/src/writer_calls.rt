@@ -17,6 +17,7 @@ use writer::writer::ObjectWriter;
 
 // Stores the type (8F, 8E or 8D, else 4) of a new object, over Free or over Allocated of the same type: its writer. Under the strict mark
 // the second is 10, and the first where its unit is programmed.
+#[unsafe(no_mangle)]
 pub extern "C" fn stumpchoir_writer_allocate(
     geometry: &[u32; 6],
     image: &mut [u8],
@@ -44,6 +45,7 @@ pub extern "C" fn stumpchoir_writer_allocate(
 }
 
 // The payload bytes that still fit; 9 where the writer stands past the end of its block.
+#[unsafe(no_mangle)]
 pub extern "C" fn stumpchoir_writer_space(
     geometry: &[u32; 6],
     writer: &[u32; 12],
@@ -63,6 +65,7 @@ pub extern "C" fn stumpchoir_writer_space(
 }
 
 // The payload bytes taken so far, stored or held.
+#[unsafe(no_mangle)]
 pub extern "C" fn stumpchoir_writer_payload_size(
     geometry: &[u32; 6],
     writer: &[u32; 12],
@@ -82,6 +85,7 @@ pub extern "C" fn stumpchoir_writer_payload_size(
 }
 
 // Those and the header.
+#[unsafe(no_mangle)]
 pub extern "C" fn stumpchoir_writer_total_size(
     geometry: &[u32; 6],
     writer: &[u32; 12],
@@ -102,6 +106,7 @@ pub extern "C" fn stumpchoir_writer_total_size(
 
 // Takes payload bytes: whole words are stored, less than a word is held. 5 where they are more than the space. The word that held bytes
 // fill is a store of its own: 10 of the words behind it leaves it there.
+#[unsafe(no_mangle)]
 pub extern "C" fn stumpchoir_writer_write(
     geometry: &[u32; 6],
     image: &mut [u8],
@@ -125,6 +130,7 @@ pub extern "C" fn stumpchoir_writer_write(
 }
 
 // Ends the object: what is held, the size, and the mark of a Finalized object; each store can be 10.
+#[unsafe(no_mangle)]
 pub extern "C" fn stumpchoir_writer_finalize(
     geometry: &[u32; 6],
     image: &mut [u8],
@@ -148,6 +154,7 @@ pub extern "C" fn stumpchoir_writer_finalize(
 
 // Deletes the object: one that is not Finalized gets its size first; of one that is Free or Deleted nothing is stored. Each store can be
 // 10.
+#[unsafe(no_mangle)]
 pub extern "C" fn stumpchoir_writer_delete(
     geometry: &[u32; 6],
     image: &mut [u8],

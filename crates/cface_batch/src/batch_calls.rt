@@ -12,6 +12,7 @@ use crossing::call;
 // Up to 64 records in order, each written as stumpchoir_write_to writes an object, up to the first refusal; *done is how many were
 // written whole. At its turn a record whose range is outside the payload is 7, then one whose type is none of the three is 4, then what
 // stumpchoir_write_to answers, 10 too.
+#[unsafe(no_mangle)]
 pub extern "C" fn stumpchoir_write_all(
     geometry: &[u32; 6],
     image: &mut [u8],

@@ -15,6 +15,7 @@ use crossing::records::BlockTypeRead;
 use crossing::{call, records};
 
 // The header of a block: kind and erase count.
+#[unsafe(no_mangle)]
 pub extern "C" fn stumpchoir_block_header_read(
     geometry: &[u32; 6],
     image: &[u8],
@@ -29,6 +30,7 @@ pub extern "C" fn stumpchoir_block_header_read(
 }
 
 // Programs a header, or is 10.
+#[unsafe(no_mangle)]
 pub extern "C" fn stumpchoir_block_header_write(
     geometry: &[u32; 6],
     image: &mut [u8],
@@ -55,6 +57,7 @@ pub extern "C" fn stumpchoir_block_header_write(
 }
 
 // Whether all bytes behind the header are FF: 1 or 0.
+#[unsafe(no_mangle)]
 pub extern "C" fn stumpchoir_is_block_data_empty(
     geometry: &[u32; 6],
     image: &[u8],
@@ -69,6 +72,7 @@ pub extern "C" fn stumpchoir_is_block_data_empty(
 }
 
 // Makes a block Undefined and empty; 2 for a known block whose erase count is at its end.
+#[unsafe(no_mangle)]
 pub extern "C" fn stumpchoir_format_block(
     geometry: &[u32; 6],
     image: &mut [u8],
@@ -85,6 +89,7 @@ pub extern "C" fn stumpchoir_format_block(
 }
 
 // Formats every block, from 0 up.
+#[unsafe(no_mangle)]
 pub extern "C" fn stumpchoir_format_storage(
     geometry: &[u32; 6],
     image: &mut [u8],
@@ -100,6 +105,7 @@ pub extern "C" fn stumpchoir_format_storage(
 }
 
 // The record of a block, read off its bytes; 1 for an Empty one, 2 where a header in it is corrupted.
+#[unsafe(no_mangle)]
 pub extern "C" fn stumpchoir_scan_block(
     geometry: &[u32; 6],
     image: &[u8],
@@ -115,6 +121,7 @@ pub extern "C" fn stumpchoir_scan_block(
 
 // Programs the type byte; 4 for a kind below 2. Under the strict mark a block that has a type already is 10, but for Undefined, which
 // stores FF.
+#[unsafe(no_mangle)]
 pub extern "C" fn stumpchoir_set_block_type(
     geometry: &[u32; 6],
     image: &mut [u8],
@@ -136,6 +143,7 @@ pub extern "C" fn stumpchoir_set_block_type(
 }
 
 // What is free, and what unfinished and deleted objects take; 9 where the listing runs past the block.
+#[unsafe(no_mangle)]
 pub extern "C" fn stumpchoir_calculate_freeable_space(
     geometry: &[u32; 6],
     image: &[u8],

@@ -9,6 +9,7 @@ ghost use Rattle.crossing.specs.Crossing.{crossed, crossing, fuse_of, geometry_i
 use crossing::call;
 
 // The first pass: deletes objects that a power cut left unfinished, or is 10 where their size or mark cannot be stored.
+#[unsafe(no_mangle)]
 pub extern "C" fn stumpchoir_delete_invalid_objects(
     geometry: &[u32; 6],
     image: &mut [u8],
@@ -25,6 +26,7 @@ pub extern "C" fn stumpchoir_delete_invalid_objects(
 }
 
 // The second: formats blocks without allocation whose only object that is not deleted is an unfinished one.
+#[unsafe(no_mangle)]
 pub extern "C" fn stumpchoir_erase_invalid_finished_blocks(
     geometry: &[u32; 6],
     image: &mut [u8],
@@ -41,6 +43,7 @@ pub extern "C" fn stumpchoir_erase_invalid_finished_blocks(
 }
 
 // The third: formats blocks with deleted objects alone, unless they are full.
+#[unsafe(no_mangle)]
 pub extern "C" fn stumpchoir_erase_full_finished_blocks(
     geometry: &[u32; 6],
     image: &mut [u8],
@@ -57,6 +60,7 @@ pub extern "C" fn stumpchoir_erase_full_finished_blocks(
 }
 
 // A collection: the three passes in order. Only the first can be 10.
+#[unsafe(no_mangle)]
 pub extern "C" fn stumpchoir_run(
     geometry: &[u32; 6],
     image: &mut [u8],

@@ -9,6 +9,7 @@ use blocks::record::BlockInfoRead;
 use crossing::{call, records};
 
 // What is left of a block; 9 where the used bytes pass the block size.
+#[unsafe(no_mangle)]
 pub extern "C" fn stumpchoir_record_free_space(
     geometry: &[u32; 6],
     record: &[u32; 4],
@@ -26,6 +27,7 @@ pub extern "C" fn stumpchoir_record_free_space(
 }
 
 // Whether nothing but the header is used: 1 or 0.
+#[unsafe(no_mangle)]
 pub extern "C" fn stumpchoir_record_is_empty(
     geometry: &[u32; 6],
     record: &[u32; 4],
@@ -43,6 +45,7 @@ pub extern "C" fn stumpchoir_record_is_empty(
 }
 
 // Adds an object's size, aligned up; 9 where the sum passes 4294967295.
+#[unsafe(no_mangle)]
 pub extern "C" fn stumpchoir_record_add_used_bytes(
     geometry: &[u32; 6],
     record: &mut [u32; 4],
@@ -60,6 +63,7 @@ pub extern "C" fn stumpchoir_record_add_used_bytes(
 }
 
 // The record of a block that was just formatted; 9 at the last erase count.
+#[unsafe(no_mangle)]
 pub extern "C" fn stumpchoir_record_update_stats_after_erase(
     geometry: &[u32; 6],
     record: &mut [u32; 4],

@@ -16,6 +16,7 @@ use storage::{file, lookup};
 
 // Where the metadata object of a file is, by its path and the hash of the path: the first Finalized object of Metadata blocks, in block
 // and offset order, that has both; 13 where none has. What is refused on the way ends the search.
+#[unsafe(no_mangle)]
 pub extern "C" fn stumpchoir_lookup(
     geometry: &[u32; 6],
     image: &[u8],
@@ -31,6 +32,7 @@ pub extern "C" fn stumpchoir_lookup(
 }
 
 // How long the file is whose metadata object is at a place: every data object is opened.
+#[unsafe(no_mangle)]
 pub extern "C" fn stumpchoir_file_size(
     geometry: &[u32; 6],
     image: &[u8],
@@ -51,6 +53,7 @@ pub extern "C" fn stumpchoir_file_size(
 
 // Its bytes from a position on, into the first *read bytes of the buffer; none at or past its end. Once the buffer is full no more is
 // opened. A refused read leaves the whole buffer as it was.
+#[unsafe(no_mangle)]
 pub extern "C" fn stumpchoir_file_read(
     geometry: &[u32; 6],
     image: &[u8],
@@ -71,6 +74,7 @@ pub extern "C" fn stumpchoir_file_read(
 }
 
 // Before the first name.
+#[unsafe(no_mangle)]
 pub extern "C" fn stumpchoir_names_new(geometry: &[u32; 6], names: &mut [u32; 2]) -> u8
     ensures { told result names.new ≡ telling names_numbers names.old (fitting (geometry_in geometry.now) (done (names_from (geometry_in geometry.now)))) }
 {
@@ -80,6 +84,7 @@ pub extern "C" fn stumpchoir_names_new(geometry: &[u32; 6], names: &mut [u32; 2]
 
 // The next name, in the order of a lookup, into the first *len bytes of the buffer: *found is 1 with it, with the place of its metadata
 // object and with the names behind it; 0 at the end, and then nothing else changes. 7 for a name longer than the buffer.
+#[unsafe(no_mangle)]
 pub extern "C" fn stumpchoir_names_next(
     geometry: &[u32; 6],
     image: &[u8],

@@ -13,6 +13,7 @@ use crossing::call;
 // then each Finalized object of a Data block is that no Finalized metadata object refers to. *twins and *unreferred are how many were
 // deleted of each. 2 where a Metadata or Data block cannot be listed, then 14 where metadata is not a hash, a name location and whole
 // locations within its block, or one of these has no Finalized object of a Data block, and under the strict mark; both before any store.
+#[unsafe(no_mangle)]
 pub extern "C" fn stumpchoir_sweep(
     geometry: &[u32; 6],
     image: &mut [u8],
@@ -31,6 +32,7 @@ pub extern "C" fn stumpchoir_sweep(
 
 // The same, and sooner: what was met is noted in the words, which the caller lends, one for each byte of the image; 7 for another number
 // of them, behind 6 and 7. They come back as 0, and after 6 or 7 as they were.
+#[unsafe(no_mangle)]
 pub extern "C" fn stumpchoir_sweep_with(
     geometry: &[u32; 6],
     image: &mut [u8],
