@@ -1,6 +1,5 @@
 """The proved programs: proving what one of them stands on, and running it."""
 import fcntl
-import glob
 import os
 import shutil
 import subprocess
@@ -97,7 +96,7 @@ def program(name):
 def is_made(made, name, parts):
     """Whether a file is there, and in none of the crates that NAME stands on, nor in itself, a file of these parts is newer."""
     crates = [os.path.join(ROOT, 'crates', crate) for names in levels(name) for crate in names]
-    files = [path for crate in crates for part in parts for path in glob.glob(os.path.join(crate, part, '**'), recursive=True)]
+    files = [os.path.join(at, file) for crate in crates for part in parts for at, _, found in os.walk(os.path.join(crate, part)) for file in ['.', *found]]
     return os.path.exists(made) and all(os.path.getmtime(path) <= os.path.getmtime(made) for path in files)
 
 
