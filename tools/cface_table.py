@@ -12,39 +12,39 @@ A row is a function:
   means    the definition that its contract cites, over g, the value and the parameters
   leaves   what a call leaves in numbers that are lent, over g and the parameters as they went in
   hand     how the answer goes out (HANDS), where `calls` does not do it itself: then `as` or `by` says how the values cross
-  before   lines of code before the call, with `needs` of calls in them
+  before   lines of code before the call
   told     what the call's promise gives, where it is not just the definition; `ended` the same of a store
-  small    why a number that goes out fits its place, where it is wider in the library
+  small    why a number that goes out fits its place, where it is wider in the library: {called} is the call, {told} its promise
   homes    'crate word' for a word of the contract that stands in more crates than one
 """
 
-# ---- values that are read from numbers: the code, the definition, the need of its call
+# ---- values that are read from numbers: the code, the definition, and the function that reads
 
-def value(var, of, read, means, need, **more):
+def value(var, of, read, means, reads, **more):
     code = f'let of = {read};\nlet {of}({var}) = of else {{\n    return {{refuse}}of.number());\n}};'
     code = code.replace('{\n', '{{\n').replace('\n};', '\n}};')
-    return dict(var=var, code=code, means=means, need=need, **more)
+    return dict(var=var, code=code, means=means, case=of.split('::')[-1], reads=reads, **more)
 
 
 VALUES = {
-    'header': value('h', 'HeaderRead::Got', 'values::header_of(header)', 'headerOf header', 'header-of',
+    'header': value('h', 'HeaderRead::Got', 'values::header_of(header)', 'header_of header', 'header_of',
                     uses={'HeaderRead': 'objects::header::HeaderRead'}),
-    'target': value('t', 'TargetRead::Got', 'values::target_of(header, state)', 'targetOf header state', 'target-of',
+    'target': value('t', 'TargetRead::Got', 'values::target_of(header, state)', 'target_of header state', 'target_of',
                     uses={'TargetRead': 'crossing::values::TargetRead'}),
-    'reader': value('r', 'ReaderRead::Got', 'values::reader_of(reader)', 'readerOf reader', 'reader-of',
+    'reader': value('r', 'ReaderRead::Got', 'values::reader_of(reader)', 'reader_of reader', 'reader_of',
                     uses={'ReaderRead': 'objects::reader::ReaderRead'}),
-    'metadata': value('m', 'MetadataRead::Got', 'values::metadata_of(metadata)', 'metadataOf metadata', 'metadata-of',
+    'metadata': value('m', 'MetadataRead::Got', 'values::metadata_of(metadata)', 'metadata_of metadata', 'metadata_of',
                       uses={'MetadataRead': 'objects::metadata::MetadataRead'}),
-    'record': value('r', 'BlockInfoRead::Got', 'records::record_of(record)', 'recordOf record', 'record-of',
+    'record': value('r', 'BlockInfoRead::Got', 'records::record_of(record)', 'record_of record', 'record_of',
                     uses={'BlockInfoRead': 'blocks::record::BlockInfoRead'}),
-    'type': value('t', 'ObjectTypeRead::Got', 'ObjectType::of_number(kind as u32)', 'objectTypeOf kind', 'of-number',
+    'type': value('t', 'ObjectTypeRead::Got', 'ObjectType::of_number(kind as u32)', 'object_type_of kind', 'of_number',
                   uses={'ObjectTypeRead': 'objects::types::ObjectTypeRead', 'ObjectType': 'objects::types::ObjectType'}),
-    'block_type': value('t', 'BlockTypeRead::Got', 'records::type_of(kind)', 'blockTypeOf kind', 'type-of',
+    'block_type': value('t', 'BlockTypeRead::Got', 'records::type_of(kind)', 'block_type_of kind', 'type_of',
                         uses={'BlockTypeRead': 'crossing::records::BlockTypeRead'}),
-    'kind': value('k', 'KindRead::Got', 'BlockHeaderKind::of_number(kind)', 'kindOf kind', 'of-number',
+    'kind': value('k', 'KindRead::Got', 'BlockHeaderKind::of_number(kind)', 'kind_of kind', 'of_number',
                   uses={'KindRead': 'blocks::header::KindRead', 'BlockHeaderKind': 'blocks::header::BlockHeaderKind'}),
     # a writer holds an array, so it stands beside the answer of its reading
-    'writer': dict(var='w', writer=True, means='writerOf writer', need='writer-of', uses={'Answered': 'medium::fuse::Answered'},
+    'writer': dict(var='w', means='writer_of writer', case='Done', reads='writer_of', uses={'Answered': 'medium::fuse::Answered'},
                    code='let of = writers::writer_of(writer);\nlet read = of.answer;\nlet Answered::Done = read else {{\n'
                         '    return {refuse}read.number());\n}};\nlet w = of.writer;'),
 }
@@ -55,37 +55,37 @@ HANDS = {
     'stored': dict(code='call::hand_back'),
     'batched': dict(code='batches::hand_back'),
     'swept': dict(code='sweeps::hand_back'),
-    'headed': {'code': 'outs::hand_back', 'as': 'headerNumbers'},
-    'new_writer': {'code': 'writers::hand_out', 'as': 'writerNumbers'},
-    'writer': {'code': 'writers::hand_back', 'as': 'writerNumbers', 'spent': True},
+    'headed': {'code': 'outs::hand_back', 'as': 'header_numbers'},
+    'new_writer': {'code': 'writers::hand_out', 'as': 'writer_numbers'},
+    'writer': {'code': 'writers::hand_back', 'as': 'writer_numbers', 'spent': True},
     'total': {'code': 'writers::hand_total', 'as': 'plain'},
     'count': {'code': 'call::hand_count', 'as': 'plain'},
-    'flag': {'code': 'records::hand_flag', 'as': 'flagNumber'},
-    'record': {'code': 'records::hand_record', 'as': 'recordNumbers'},
-    'block_header': {'code': 'records::hand_header', 'as': 'blockHeaderNumbers'},
-    'header': {'code': 'outs::hand_header', 'as': 'headerNumbers'},
-    'info': {'code': 'outs::hand_info', 'by': 'infoOut'},
-    'location': {'code': 'outs::hand_location', 'as': 'locationNumbers'},
-    'next': {'code': 'outs::hand_next', 'by': 'nextOut'},
-    'reader': {'code': 'cursors::hand_reader', 'as': 'readerNumbers'},
-    'metadata': {'code': 'cursors::hand_metadata', 'as': 'metadataNumbers'},
-    'next_location': {'code': 'cursors::hand_next', 'by': 'nextLocationOut'},
+    'flag': {'code': 'records::hand_flag', 'as': 'flag_number'},
+    'record': {'code': 'records::hand_record', 'as': 'record_numbers'},
+    'block_header': {'code': 'records::hand_header', 'as': 'block_header_numbers'},
+    'header': {'code': 'outs::hand_header', 'as': 'header_numbers'},
+    'info': {'code': 'outs::hand_info', 'by': 'info_out'},
+    'location': {'code': 'outs::hand_location', 'as': 'location_numbers'},
+    'next': {'code': 'outs::hand_next', 'by': 'next_out'},
+    'reader': {'code': 'cursors::hand_reader', 'as': 'reader_numbers'},
+    'metadata': {'code': 'cursors::hand_metadata', 'as': 'metadata_numbers'},
+    'next_location': {'code': 'cursors::hand_next', 'by': 'next_location_out'},
 }
 
 # words of the kit that a contract uses
-DATA_STATE = 'Rattle·objects.specs.declared.state.ObjectDataState.the-variants'
-KIT = {'_≡_': 'mathlib.Core.Path', '[]': 'mathlib.Core.List', '_∷_': 'mathlib.Core.List', 'length': 'lib.ListN', 'Valid': DATA_STATE, 'Deleted': DATA_STATE}
+PRELUDE, DATA_STATE = 'Rattle.std.specs.Prelude', 'Rattle.objects.specs.declared.state.ObjectDataState.TheVariants'
+KIT = {'◌≡◌': PRELUDE, '[]': PRELUDE, '◌∷◌': PRELUDE, 'length': PRELUDE, 'Valid': DATA_STATE, 'Deleted': DATA_STATE}
 
 # ---- the functions, by module: module, what it is, the part of the header before its functions
 
 MEDIUM = [
     dict(name='check', says='A geometry and the room for it: 0, 6 or 7.', place='image',
-         calls='medium::geometry::check', args='g, image.len()', number='checkOf g (length image)'),
+         calls='medium::geometry::check', args='g, image.len()', number='check_of g (length image)'),
     dict(name='align', says='n bytes aligned up to whole units.', place='alone', params='n aligned>u64',
-         calls='medium::geometry::align', args='g, n', means='alignedOf g n', hand='count'),
+         calls='medium::geometry::align', args='g, n', means='aligned_of g n', hand='count'),
     dict(name='read', says='A range of one block, into the buffer.', place='image', params='block offset buffer[]>',
          calls='cface::filled::read', args='g, image, block, offset, buffer',
-         means='readAt g block offset (length buffer) image', **{'as': 'plain'}),
+         means='read_at g block offset (length buffer) image', **{'as': 'plain'}),
     dict(name='write', says='Programs the bytes of src at a place of a block: one store, so 3, then 10, then 8.', place='store',
          params='block offset src[]', calls='medium::write', args='g, image, f, block, offset as usize, src', means='write g block offset src', hand='stored'),
     dict(name='erase', says='Sets a block to FF: one unit.', place='store', params='block',
@@ -95,23 +95,23 @@ MEDIUM = [
 LOCATIONS = [
     dict(name='location_into_bytes', says='The bytes of a location: the first c + s of the six are set, and *len is c + s.', place='alone',
          params='block offset bytes>six len>u64', calls='cface::filled::location', args='g, at, bytes, len',
-         means='intoBytes g at (locationLength g)', by='bytesOut'),
+         means='into_bytes g at (location_length g)', by='bytes_out'),
     dict(name='location_from_bytes', says='The block and offset that c + s bytes say; 9 for another length.', place='alone',
          params='bytes[] location>location', calls='objects::location::ObjectLocation::from_bytes', args='g, bytes',
-         means='fromBytes g bytes', hand='location'),
+         means='from_bytes g bytes', hand='location'),
 ]
 
 HEADERS = [
     dict(name='header_read', says='The header at a place.', place='image', params='block offset header>header',
-         calls='objects::header::ObjectHeader::read', args='g, image, at', means='headerAt g at image', hand='header'),
+         calls='objects::header::ObjectHeader::read', args='g, image, at', means='header_at g at image', hand='header'),
     dict(name='update_state', says='Stores the mark of a state that lies ahead, or is 10; the present state stores nothing, backwards is 4, Free is 9.',
          place='store', params='header=header state:u8', value='target', before='let h = t.header;\nlet to = t.state;',
          calls='objects::header::ObjectHeader::update_state', on='h', args='g, image, f, to',
-         means='updateState g (t .header) (t .state)', hand='headed'),
+         means='update_state g t.header t.state', hand='headed'),
     dict(name='set_payload_size', says='Stores the low s bytes of a size that is not set yet, or is 10; one that is set is 4.', place='store',
          params='header=header payload_size', value='header',
          calls='objects::header::ObjectHeader::set_payload_size', on='h', args='g, image, f, payload_size',
-         means='setPayloadSize g h payload_size', hand='headed'),
+         means='set_payload_size g h payload_size', hand='headed'),
 ]
 
 WRITERS = [
@@ -120,90 +120,90 @@ WRITERS = [
               'the strict mark the second is 10, and the first where its unit is programmed.',
          place='store', params='block offset kind:type writer>writer', value='type',
          calls='writer::writer::ObjectWriter::allocate', args='g, image, f, at, t', means='allocate g at t', hand='new_writer',
-         small='small-by _ _ _ _ (@allocate .result .answer) (@allocate .result .writer) (@allocate .ensures .0) (allocate-small _ _ _ _ _)'),
+         small='small_by _ _ _ _ {called}.result.answer {called}.result.writer {told} (allocate_small _ _ _ _ _)'),
     dict(name='writer_space', says='The payload bytes that still fit; 9 where the writer stands past the end of its block.', place='alone',
          params='writer<writer space>u64', value='writer', calls='writer::writer::ObjectWriter::space', on='w', args='g',
-         means='spaceOf g w', hand='count'),
+         means='space_of g w', hand='count'),
     dict(name='writer_payload_size', says='The payload bytes taken so far, stored or held.', place='alone',
          params='writer<writer payload_size>u64', value='writer', calls='writer::writer::ObjectWriter::payload_size', on='w', args='g',
-         means='payloadSize g w', hand='count'),
+         means='size_of_payload g w', hand='count'),
     dict(name='writer_total_size', says='Those and the header.', place='alone', params='writer<writer total_size>u64', value='writer',
-         calls='writer::writer::ObjectWriter::total_size', on='w', args='g', means='totalSize g w', hand='count', homes=['writer totalSize']),
+         calls='writer::writer::ObjectWriter::total_size', on='w', args='g', means='size_of_object g w', hand='count', homes=['writer size_of_object']),
     dict(name='writer_write',
          says='Takes payload bytes: whole words are stored, less than a word is held. 5 where they are more than the space. The word that held '
               'bytes fill is a store of its own: 10 of the words behind it leaves it there.',
          place='store', params='writer=writer src[]', value='writer', calls='writer::writer::ObjectWriter::write', on='w',
-         args='g, image, f, src', means='writeSome g w src', hand='writer',
-         small='small-by _ _ _ _ (@write .result .answer) (@write .result .writer) (@write .ensures .0) (some-small _ _ _ _ _)'),
+         args='g, image, f, src', means='write_some g w src', hand='writer',
+         small='small_by _ _ _ _ {called}.result.answer {called}.result.writer {told} (some_small _ _ _ _ _)'),
     dict(name='writer_finalize', says='Ends the object: what is held, the size, and the mark of a Finalized object; each store can be 10.',
          place='store', params='writer=writer', value='writer', calls='writer::writer::ObjectWriter::finalize', on='w', args='g, image, f',
          means='finalize g w', hand='writer',
-         small='small-by _ _ _ _ (@finalize .result .answer) (@finalize .result .writer) (@finalize .ensures .0) (finalize-small _ _ _ _)'),
+         small='small_by _ _ _ _ {called}.result.answer {called}.result.writer {told} (finalize_small _ _ _ _)'),
     dict(name='writer_delete',
          says='Deletes the object: one that is not Finalized gets its size first; of one that is Free or Deleted nothing is stored. Each store '
               'can be 10.',
          place='store', params='writer=writer', value='writer', calls='writer::writer::ObjectWriter::delete', on='w', args='g, image, f',
          means='delete g w', hand='writer',
-         small='small-by _ _ _ _ (@delete .result .answer) (@delete .result .writer) (@delete .ensures .0) (delete-small _ _ _ _)'),
+         small='small_by _ _ _ _ {called}.result.answer {called}.result.writer {told} (delete_small _ _ _ _)'),
 ]
 
 READERS = [
     dict(name='reader_new', says='A reader of the Finalized object at a place, or of any object that is there.', place='image',
          params='block offset allow_non_finalized:bool reader>reader', calls='objects::reader::ObjectReader::new',
-         args='g, image, at, allow_non_finalized', means='readerAt g at allow_non_finalized image', hand='reader',
-         small='new-small _ _ _ _ (@new .result) (@new .ensures)'),
+         args='g, image, at, allow_non_finalized', means='reader_at g at allow_non_finalized image', hand='reader',
+         small='new_small _ _ _ _ {called}.result {told}'),
     dict(name='reader_len', says='The payload size of the reader\'s object, 0 where it is unset.', place='alone',
          params='reader<reader len>u64', value='reader', calls='objects::reader::ObjectReader::len', on='r', args='g',
-         means='readerLen g r', hand='count'),
+         means='reader_len g r', hand='count'),
     dict(name='reader_remaining', says='What is left of the payload; 9 where the cursor is beyond it.', place='alone',
          params='reader<reader remaining>u64', value='reader', calls='objects::reader::ObjectReader::remaining', on='r', args='g',
-         means='Rattle·objects.specs.Reader.remaining g r', hand='count'),
+         means='Rattle.objects.specs.Reader.remaining g r', hand='count'),
     dict(name='reader_rewind', says='Back to the start of the payload.', place='alone', params='reader=reader',
-         calls='cface::cursors::rewind', args='g, reader', means='fitting g (rewindOf reader)', **{'as': 'readerNumbers'}),
+         calls='cface::cursors::rewind', args='g, reader', means='fitting g (rewind_of reader)', **{'as': 'reader_numbers'}),
     dict(name='reader_read', says='As much of what is left as the buffer holds, into its first *read bytes.', place='image',
          params='reader=reader buffer[]> read>u64', value='reader', calls='cface::cursors::read',
-         args='g, image, r, reader, buffer, read', means='readSome g r (length buffer) image', by='chunkOut'),
+         args='g, image, r, reader, buffer, read', means='read_some g r (length buffer) image', by='chunk_out'),
 ]
 
 INFOS = [
     dict(name='info_read',
          says='The object at a place: *found is 1 with its header, or 0 where the place is Free (then the header stays as it was).',
          place='image', params='block offset found>u32 header>header', calls='objects::info::read', args='g, image, at',
-         means='infoAt g at image', hand='info', homes=['objects infoAt']),
+         means='info_at g at image', hand='info', homes=['objects info_at']),
     dict(name='info_total_size', says='Header and payload together, in bytes.', place='alone', params='header<header total_size>u64',
-         value='header', calls='objects::info::total_size', args='g, h', means='totalSize g h', hand='count', homes=['objects totalSize']),
+         value='header', calls='objects::info::total_size', args='g, h', means='size_of_object g h', hand='count', homes=['objects size_of_object']),
     dict(name='info_finalize', says='Stores the mark of a Finalized object, or is 10.', place='store', params='header=header', value='header',
-         calls='objects::info::finalize', args='g, image, f, h', means='setState g h Valid', hand='headed'),
+         calls='objects::info::finalize', args='g, image, f, h', means='set_state g h Valid', hand='headed'),
     dict(name='info_delete', says='Stores the mark of a Deleted object, or is 10.', place='store', params='header=header', value='header',
-         calls='objects::info::delete', args='g, image, f, h', means='setState g h Deleted', hand='headed'),
+         calls='objects::info::delete', args='g, image, f, h', means='set_state g h Deleted', hand='headed'),
 ]
 
 METADATA = [
     dict(name='info_read_metadata', says='Path hash and name location of an object that is known by its header.', place='image',
          params='header<header metadata>metadata', value='header', calls='objects::metadata::read', args='g, image, h',
-         means='readMetadata g h image', hand='metadata', small='metadata-small _ _ _ (@read .result) (@read .ensures)'),
+         means='read_metadata g h image', hand='metadata', small='metadata_small _ _ _ {called}.result {told}'),
     dict(name='location_read_metadata', says='The same of the object at a place; a Free place is 2.', place='image',
-         params='block offset metadata>metadata', calls='objects::metadata::read_at', args='g, image, at', means='metadataAt g at image',
-         hand='metadata', small='metadata-at-small _ _ _ (@read-at .result) (@read-at .ensures)'),
+         params='block offset metadata>metadata', calls='objects::metadata::read_at', args='g, image, at', means='metadata_at g at image',
+         hand='metadata', small='metadata_at_small _ _ _ {called}.result {told}'),
     dict(name='metadata_next_object_location',
          says='The location of the next data object: *found is 1 with it, or 0 at the end of the list (then metadata and location stay).',
          place='image', params='metadata=metadata found>u32 location>location', value='metadata',
          calls='objects::metadata::MetadataObjectHeader::next_object_location', on='m', args='g, image',
-         means='nextLocation g m image', hand='next_location',
-         small='next-small _ _ _ (@next-object-location .result) (@next-object-location .ensures)'),
+         means='next_location g m image', hand='next_location',
+         small='next_small _ _ _ {called}.result {told}'),
     dict(name='metadata_reset', says='Back to the first data object.', place='alone', params='metadata=metadata',
-         calls='cface::cursors::reset', args='g, metadata', means='fitting g (resetIn metadata)', **{'as': 'metadataNumbers'}),
+         calls='cface::cursors::reset', args='g, metadata', means='fitting g (reset_in metadata)', **{'as': 'metadata_numbers'}),
 ]
 
 ITERATORS = [
     dict(name='iterator_new', says='An iterator right after the header of a block.', place='alone', params='block iterator>iterator',
-         calls='crossing::outs::start', args='g, block, iterator', means='fitting g (done (startOf g block))', **{'as': 'iteratorNumbers'}),
+         calls='crossing::outs::start', args='g, block, iterator', means='fitting g (done (start_of g block))', **{'as': 'iterator_numbers'}),
     dict(name='iterator_next',
          says='The object at the iterator: *found is 1 with its header and the iterator behind it. Where listing stops, iterator and header '
               'stay: *found is 0 at a free place, and 2 at the end of the block.',
          place='image', params='iterator=iterator found>u32 header>header', before='let i = values::iterator_of(iterator);',
-         calls='objects::iterator::ObjectIterator::next', on='i', args='g, image', means='nextOf g (iteratorOf iterator) image',
-         hand='next', needs=['iterator-of-requires'], told='@iterator-of .ensures, ← {}'),
+         calls='objects::iterator::ObjectIterator::next', on='i', args='g, image', means='next_of g (iterator_of iterator) image',
+         hand='next', told='c.iterator_of-i.ensures, ← {}'),
 ]
 
 MOVING = [
@@ -211,16 +211,16 @@ MOVING = [
          says='An object of a type (8F, 8E or 8D, else 4), written whole: *total_size is its header and payload together. The type is stored '
               'first, and 5, where the payload does not fit, leaves it there; 10 of a later store leaves those before it.',
          place='store', params='block offset kind:type src[] total_size>u64', value='type', calls='writer::writer::ObjectWriter::write_to',
-         args='g, image, f, at, t, src', means='writeTo g at t src', hand='total', ended='wrote-ended (@write-to .result) _ ∙ {}'),
+         args='g, image, f, at, t, src', means='write_to g at t src', hand='total', ended='wrote_ended c.write_to-a.result _ ∙ {}'),
     dict(name='copy_object',
          says='The Finalized object that a header names, anew at another place: its header there. The type is the one that the header says. '
               '10 leaves what was stored of it.',
          place='store', params='header<header block offset copy>header', value='header', calls='moving::copy_object',
-         args='g, image, f, h, to', means='copyObject g h to', hand='headed'),
+         args='g, image, f, h, to', means='copy_object g h to', hand='headed'),
     dict(name='move_object',
          says='The same, and then the object is deleted where it was; 10 of its delete mark leaves both, the copy finished.', place='store',
          params='header<header block offset copy>header', value='header', calls='moving::move_object',
-         args='g, image, f, h, to', means='moveObject g h to', hand='headed'),
+         args='g, image, f, h, to', means='move_object g h to', hand='headed'),
 ]
 
 BATCH = [
@@ -229,7 +229,7 @@ BATCH = [
               'written whole. At its turn a record whose range is outside the payload is 7, then one whose type is none of the three is 4, then what '
               'stumpchoir_write_to answers, 10 too.',
          place='store', params='block records[]:u32 payload[] done#u32', calls='batch::write_all',
-         args='g, image, f, block, records, payload', means='writeAll g block records payload', hand='batched'),
+         args='g, image, f, block, records, payload', means='write_all g block records payload', hand='batched'),
 ]
 
 STORAGE = [
@@ -239,19 +239,19 @@ STORAGE = [
          place='image', params='path[] hash location>location', calls='storage::lookup::lookup', args='g, image, path, hash',
          means='lookup g path hash image', hand='location'),
     dict(name='file_size', says='How long the file is whose metadata object is at a place: every data object is opened.', place='image',
-         params='block offset size>u64', calls='storage::file::size', args='g, image, at', means='fileSize g at image', hand='count'),
+         params='block offset size>u64', calls='storage::file::size', args='g, image, at', means='file_size g at image', hand='count'),
     dict(name='file_read',
          says='Its bytes from a position on, into the first *read bytes of the buffer; none at or past its end. Once the buffer is full no more '
               'is opened. A refused read leaves the whole buffer as it was.',
          place='image', params='block offset position:u64 buffer[]> read>u64', calls='cface_storage::files::read',
-         args='g, image, at, position, buffer, read', means='readFile g at position (length buffer) image', by='bytesOut'),
+         args='g, image, at, position, buffer, read', means='read_file g at position (length buffer) image', by='bytes_out'),
     dict(name='names_new', says='Before the first name.', place='alone', params='names>names', calls='cface_storage::listed::start',
-         args='g, names', means='fitting g (done (namesFrom g))', **{'as': 'namesNumbers'}),
+         args='g, names', means='fitting g (done (names_from g))', **{'as': 'names_numbers'}),
     dict(name='names_next',
          says='The next name, in the order of a lookup, into the first *len bytes of the buffer: *found is 1 with it, with the place of its '
               'metadata object and with the names behind it; 0 at the end, and then nothing else changes. 7 for a name longer than the buffer.',
          place='image', params='names=names buffer[]> found>u32 location>location len>u64', calls='cface_storage::listed::next',
-         args='g, image, names, buffer, found, location, len', means='nextName g (namesOf names) (length buffer) image', by='nameOut'),
+         args='g, image, names, buffer, found, location, len', means='next_name g (names_of names) (length buffer) image', by='name_out'),
 ]
 
 SWEEP = [
@@ -266,62 +266,62 @@ SWEEP = [
     dict(name='sweep_with',
          says='The same, and sooner: what was met is noted in the words, which the caller lends, one for each byte of the image; 7 for another number of '
               'them, behind 6 and 7. They come back as 0, and after 6 or 7 as they were.',
-         place='store', params='twins#u32 unreferred#u32 words[]~:u32', calls='sweep::sweep_with', args='g, image, f, words', means='sweepWith g (length words)',
-         leaves={'words': 'wordsAfter (wordsFit g (length image) (length words)) words'}, hand='swept'),
+         place='store', params='twins#u32 unreferred#u32 words[]~:u32', calls='sweep::sweep_with', args='g, image, f, words', means='sweep_with g (length words)',
+         leaves={'words': 'words_after (words_fit g (length image) (length words)) words'}, hand='swept'),
 ]
 
 BLOCKS = [
     dict(name='block_header_read', says='The header of a block: kind and erase count.', place='image', params='block header>block_header',
-         calls='blocks::header::BlockHeader::read', args='g, image, block', means='blockHeaderAt g block image', hand='block_header'),
+         calls='blocks::header::BlockHeader::read', args='g, image, block', means='block_header_at g block image', hand='block_header'),
     dict(name='block_header_write', says='Programs a header, or is 10.', place='store', params='block kind:kind erase_count', value='kind',
          before='let h = BlockHeader {\n    kind: k,\n    erase_count: erase_count,\n};', calls='blocks::header::BlockHeader::write', on='h',
-         args='g, image, f, block', means='writeHeader g block (blockHeaderOf k erase_count)', hand='stored'),
+         args='g, image, f, block', means='write_header g block (block_header_of k erase_count)', hand='stored'),
     dict(name='is_block_data_empty', says='Whether all bytes behind the header are FF: 1 or 0.', place='image', params='block empty>u32',
-         calls='blocks::format::is_block_data_empty', args='g, image, block', means='dataEmptyAt g block image', hand='flag'),
+         calls='blocks::format::is_block_data_empty', args='g, image, block', means='data_empty_at g block image', hand='flag'),
     dict(name='format_block', says='Makes a block Undefined and empty; 2 for a known block whose erase count is at its end.', place='store',
-         params='block', calls='blocks::format::format_block', args='g, image, f, block', means='formatBlock g block', hand='stored'),
+         params='block', calls='blocks::format::format_block', args='g, image, f, block', means='format_block g block', hand='stored'),
     dict(name='format_storage', says='Formats every block, from 0 up.', place='store',
-         calls='blocks::format::format_storage', args='g, image, f', means='formatStorage g', hand='stored'),
+         calls='blocks::format::format_storage', args='g, image, f', means='format_storage g', hand='stored'),
     dict(name='scan_block', says='The record of a block, read off its bytes; 1 for an Empty one, 2 where a header in it is corrupted.',
          place='image', params='block record>record', calls='blocks::scan::scan_block', args='g, image, block',
-         means='scanBlock g block image', hand='record'),
+         means='scan_block g block image', hand='record'),
     dict(name='set_block_type',
          says='Programs the type byte; 4 for a kind below 2. Under the strict mark a block that has a type already is 10, but for Undefined, '
               'which stores FF.',
          place='store', params='block kind:block_type', value='block_type', calls='blocks::format::set_block_type', args='g, image, f, block, t',
-         means='setBlockType g block t', hand='stored'),
+         means='set_block_type g block t', hand='stored'),
     dict(name='calculate_freeable_space',
          says='What is free, and what unfinished and deleted objects take; 9 where the listing runs past the block.', place='image',
          params='block space>u64', calls='blocks::scan::calculate_freeable_space', args='g, image, block',
-         means='calculateFreeableSpace g block image', hand='count'),
+         means='calculate_freeable_space g block image', hand='count'),
 ]
 
 RECORDS = [
     dict(name='record_free_space', says='What is left of a block; 9 where the used bytes pass the block size.', place='alone',
          params='record<record space>u64', value='record', calls='blocks::record::BlockInfo::free_space', on='r', args='g',
-         means='freeSpace g r', hand='count'),
+         means='free_space g r', hand='count'),
     dict(name='record_is_empty', says='Whether nothing but the header is used: 1 or 0.', place='alone', params='record<record empty>u32',
-         value='record', calls='blocks::record::BlockInfo::is_empty', on='r', args='g', means='recordEmpty g r', hand='flag'),
+         value='record', calls='blocks::record::BlockInfo::is_empty', on='r', args='g', means='record_empty g r', hand='flag'),
     dict(name='record_add_used_bytes', says='Adds an object\'s size, aligned up; 9 where the sum passes 4294967295.', place='alone',
          params='record=record total_size', value='record', calls='blocks::record::BlockInfo::add_used_bytes', on='r', args='g, total_size',
-         means='addUsedBytes g r total_size', hand='record'),
+         means='add_used_bytes g r total_size', hand='record'),
     dict(name='record_update_stats_after_erase', says='The record of a block that was just formatted; 9 at the last erase count.',
          place='alone', params='record=record', value='record', calls='blocks::record::BlockInfo::update_stats_after_erase', on='r',
-         args='g', means='updateStatsAfterErase g r', hand='record'),
+         args='g', means='update_stats_after_erase g r', hand='record'),
 ]
 
 COLLECTOR = [
     dict(name='delete_invalid_objects',
          says='The first pass: deletes objects that a power cut left unfinished, or is 10 where their size or mark cannot be stored.', place='store',
-         params='table[]=:u32', calls='collector::delete_invalid_objects', args='g, image, table, f', means='deleteInvalidObjects g',
+         params='table[]=:u32', calls='collector::delete_invalid_objects', args='g, image, table, f', means='delete_invalid_objects g',
          hand='stored'),
     dict(name='erase_invalid_finished_blocks',
          says='The second: formats blocks without allocation whose only object that is not deleted is an unfinished one.', place='store',
          params='table[]=:u32', calls='collector::erase_invalid_finished_blocks', args='g, image, table, f',
-         means='eraseInvalidFinishedBlocks g', hand='stored'),
+         means='erase_invalid_finished_blocks g', hand='stored'),
     dict(name='erase_full_finished_blocks', says='The third: formats blocks with deleted objects alone, unless they are full.', place='store',
          params='table[]=:u32', calls='collector::erase_full_finished_blocks', args='g, image, table, f',
-         means='eraseFullFinishedBlocks g', hand='stored'),
+         means='erase_full_finished_blocks g', hand='stored'),
     dict(name='run', says='A collection: the three passes in order. Only the first can be 10.', place='store', params='table[]=:u32',
          calls='collector::run', args='g, image, table, f', means='collect g', hand='stored'),
 ]

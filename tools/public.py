@@ -4,11 +4,11 @@ import glob
 import os
 import re
 
-from common import ITEM, code, past, read
+from common import ITEM, code, listed, past, read
 
-CLAUSE = re.compile(r'\s*\b(requires|ensures)\b[^{]*\{')
+CLAUSE = re.compile(r'\s*\b(requires|ensures)\b\*?\s*(\w*)[^{]*\{')
 
-# name: crate::module::function; clauses: (kind, text) in order; params: (name, type) in order; answers: whether it returns a value
+# name: crate::module::function; clauses: (kind, name or '', text) in order; params: (name, type) in order; answers: whether it returns a value
 Function = collections.namedtuple('Function', 'name clauses params answers')
 
 
@@ -21,13 +21,13 @@ def parameters(text):
 
 
 def clauses(text, at):
-    """The clauses of the function whose name ends at AT, as (kind, text), and the place after its body."""
+    """The clauses of the function whose name ends at AT, as (kind, name, text), and the place after its body."""
     found = []
     while at < len(text):
         m = CLAUSE.match(text, at)
         if m:
             end = past(text, m.end() - 1)
-            found.append((m[1], text[m.end():end - 1]))
+            found.append((m[1], m[2], text[m.end():end - 1]))
             at = end
         elif text[at] == '{':
             return found, past(text, at)
@@ -39,13 +39,12 @@ def clauses(text, at):
 
 
 def libraries():
-    """The library crates that crates.txt lists, in its order."""
-    names = [line.split('#')[0].partition(':')[0].strip() for line in read('crates.txt').splitlines()]
-    return [n for n in names if n and os.path.isfile(f'crates/{n}/src/lib.rt')]
+    """The library crates that crates.txt lists, in its order. A static library only hands on what a library has, and nothing can stand on it."""
+    return [name for name, words, _ in listed() if 'staticlib' not in words and os.path.isfile(f'crates/{name}/src/lib.rt')]
 
 
-def public(crate):
-    """Each public function of a crate."""
+def public(crate, hidden=False):
+    """Each public function of a crate; HIDDEN: each function that has a body."""
     texts = {f: code(read(f)) for f in sorted(glob.glob(f'crates/{crate}/src/**/*.rt', recursive=True))}
     whole = '\n'.join(texts.values())
     closed = set(re.findall(r'(?<!pub )\bmod\s+(\w+)\s*;', whole))
@@ -59,9 +58,9 @@ def public(crate):
             if m['fn']:
                 told, end = clauses(text, at)
                 path = home + [s for s in stack if s] + [m['fn']]
-                hidden = any(p in closed for p in path[:-1]) and not re.search(rf'\b{m["fn"]}\b', again)
-                shown = (m['access'] or '').strip() == 'pub' and not hidden
-                if end and (shown or m['c']):
+                closed_off = any(p in closed for p in path[:-1]) and not re.search(rf'\b{m["fn"]}\b', again)
+                shown = (m['access'] or '').strip() == 'pub' and not closed_off
+                if end and (hidden or shown or m['c']):
                     behind = past(text, at)
                     inside = text[at:behind].strip()[1:-1]
                     answers = text[behind:].lstrip().startswith('->')
@@ -71,3 +70,8 @@ def public(crate):
                 stack[-1:] = []
             else:
                 stack.append(m['mod'] or m['impl'])
+
+
+def is_mute(function):
+    """Whether a contract could say nothing of it: it answers nothing, and is lent nothing to change. Such a function only prints."""
+    return not function.answers and not any(kind.startswith('&mut') for _, kind in function.params)

@@ -10,16 +10,13 @@ from verbs import program
 
 
 def interface():
-    """The crates that the C interface is in."""
-    return sorted(os.path.basename(path) for path in glob.glob(os.path.join(program.ROOT, 'crates', 'cface*')))
+    """The crates that the C interface is in: beside each is a thin one, whose archive it is."""
+    return sorted(os.path.basename(path)[:-2] for path in glob.glob(os.path.join(program.ROOT, 'crates', 'cface*_c')))
 
 
 def is_made(crate):
     """Whether the crate's archive is there, and no code below it is newer."""
-    archive = os.path.join(program.ROOT, 'target', 'staticlib', f'lib{crate}.a')
-    below = [name for names in program.levels(crate) for name in names]
-    code = [path for name in below for path in glob.glob(os.path.join(program.ROOT, 'crates', name, 'src', '**', '*.rt'), recursive=True)]
-    return os.path.exists(archive) and all(os.path.getmtime(path) <= os.path.getmtime(archive) for path in code)
+    return program.is_made(os.path.join(program.ROOT, 'target', 'staticlib', f'lib{crate}.a'), f'{crate}_c', ('src',))
 
 
 def make_library():

@@ -21,7 +21,7 @@ def dependencies():
     """The crates of crates.txt, each with those of the repository that it stands on."""
     with open(os.path.join(ROOT, 'crates.txt'), encoding='utf-8') as f:
         lines = [line.split('#')[0].partition(':') for line in f]
-    listed = {name.strip(): below.split() for name, _, below in lines if name.strip()}
+    listed = {name.split()[0]: below.split() for name, _, below in lines if name.strip()}  # `staticlib` may stand behind the name
     return {name: [d for d in below if d in listed] for name, below in listed.items()}
 
 
@@ -61,9 +61,11 @@ class Told:
             note(f'{self.doing[1]} {self.what} in {time.time() - self.began:.0f} s')
 
 
-def work(command, what, doing, place):
-    """Runs a command of the repository. What it does is told once it takes longer than a look at unchanged files."""
-    run = subprocess.Popen(command, cwd=ROOT, stdout=subprocess.PIPE, stderr=subprocess.STDOUT, text=True)
+def work(command, what, doing, place, folder='', sign=None):
+    """Runs a command in a folder of the repository. What it does is told once it takes longer than a look at unchanged files. It went well where
+    its status is 0, or where a line begins with SIGN."""
+    run = subprocess.Popen(command, cwd=os.path.join(ROOT, folder), stdin=subprocess.DEVNULL, stdout=subprocess.PIPE, stderr=subprocess.STDOUT,
+                           text=True, errors='replace')
     told = Told(what, doing, place)
     while True:
         try:
@@ -71,39 +73,42 @@ def work(command, what, doing, place):
             break
         except subprocess.TimeoutExpired:
             told.more()
-    if run.returncode:
+    well = any(line.startswith(sign) for line in said.splitlines()) if sign else run.returncode == 0
+    if not well:
         raise Failed(f'{what}: not {doing[1]}. The last lines of `{" ".join(command)}`:\n' + '\n'.join(said.splitlines()[-5:]))
     told.done()
 
 
-def check(crates, place):
-    work(['rt', 'check', *crates], ' and '.join(crates), ('proving', 'proved'), f'{place}; up to three minutes on an idle machine, the first time only')
-
-
-def proved_once(name):
-    return os.path.exists(os.path.join(ROOT, 'target', 'stamp', name))
-
-
 def able_to_prove():
-    """Without its folder `rt` would go by what an earlier run left there."""
+    """Without its folders `rt` would go by what an earlier run left there."""
     if not shutil.which('rt'):
         raise Failed('no rt on PATH: install the Rattle kit and put its bin folder there')
-    folder = os.path.join(ROOT, 'target')
-    if not os.access(folder if os.path.exists(folder) else ROOT, os.W_OK):
-        raise Failed(f'{folder}: this user cannot write there, and rt keeps its proofs there: work in a copy of your own')
+    for folder in (os.path.join(ROOT, 'crates'), os.path.join(ROOT, 'target')):
+        if not os.access(folder if os.path.exists(folder) else ROOT, os.W_OK):
+            raise Failed(f'{folder}: this user cannot write there, and rt keeps its proofs in the crates: work in a copy of your own')
+
+
+def program(name):
+    """The program, which `rt run` and `rt ci` make, each once it is proved."""
+    return os.path.join(ROOT, 'crates', name, 'out', name)
+
+
+def is_made(made, name, parts):
+    """Whether a file is there, and in none of the crates that NAME stands on, nor in itself, a file of these parts is newer."""
+    crates = [os.path.join(ROOT, 'crates', crate) for names in levels(name) for crate in names]
+    files = [os.path.join(at, file) for crate in crates for part in parts for at, _, found in os.walk(os.path.join(crate, part)) for file in ['.', *found]]
+    return os.path.exists(made) and all(os.path.getmtime(path) <= os.path.getmtime(made) for path in files)
 
 
 def prove(name):
-    """Has target/bin/NAME made by `rt`, which proves again only what changed since."""
+    """Has the program made by `rt`, which proves again only what changed since."""
     able_to_prove()
-    groups = levels(name)
     with open(os.path.join(ROOT, 'crates.txt'), encoding='utf-8') as lock:
         fcntl.flock(lock, fcntl.LOCK_EX)  # two proofs at once would write the same files
-        if all(proved_once(crate) for crates in groups for crate in crates):
-            check([name], 'and what changed below it')
-            return
-        for i, crates in enumerate(groups, 1):
-            check(crates, f'step {i} of {len(groups)}')
+        if not is_made(program(name), name, ('src', 'specs', 'proofs')):
+            # rt also runs it; whatever it then says of a folder without a dump, it was proved and compiled
+            work(['rt', 'run'], name, ('proving', 'proved'), 'and what it stands on; some minutes, the first time only', f'crates/{name}', f'rt: running out/{name}')
+            os.utime(program(name))
 
 
 def run(name, words=(), folder=None):

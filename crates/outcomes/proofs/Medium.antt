@@ -5,28 +5,28 @@ use Rattle.outcomes.proofs.Answers.{counted_one, geometry_one, granularity_one, 
 use Rattle.medium.proofs.fuse.Stored.number.Reads as fuse-Stored-number
 use Rattle.medium.proofs.fuse.Answered.number.Reads as fuse-Answered-number
 use Rattle.medium.proofs.geometry.GeometryRead.number.Reads as geometry-GeometryRead-number
-use Rattle.medium.proofs.geometry.of_numbers.Reads as geometry-of-numbers
+use Rattle.medium.proofs.geometry.of_numbers.Reads as geometry-of_numbers
 use Rattle.medium.proofs.geometry.limit.Reads as geometry-limit
 use Rattle.medium.proofs.geometry.fit.Reads as geometry-fit
 use Rattle.medium.proofs.geometry.check.Reads as geometry-check
 use Rattle.medium.proofs.geometry.Counted.number.Reads as geometry-Counted-number
 use Rattle.medium.proofs.geometry.align.Reads as geometry-align
 use Rattle.medium.proofs.granularity.GranularityRead.number.Reads as granularity-GranularityRead-number
-use Rattle.medium.proofs.granularity.Granularity.of_byte.Reads as granularity-Granularity-of-byte
+use Rattle.medium.proofs.granularity.Granularity.of_byte.Reads as granularity-Granularity-of_byte
 use Rattle.medium.proofs.granularity.Granularity.byte.Reads as granularity-Granularity-byte
 use Rattle.medium.proofs.granularity.Granularity.width.Reads as granularity-Granularity-width
 use Rattle.medium.proofs.granularity.Granularity.align.Reads as granularity-Granularity-align
-use Rattle.medium.proofs.granularity.Granularity.most_strict.Reads as granularity-Granularity-most-strict
-use Rattle.medium.proofs.granularity.Granularity.finish_at.Reads as granularity-Granularity-finish-at
-use Rattle.medium.proofs.granularity.Granularity.delete_at.Reads as granularity-Granularity-delete-at
-use Rattle.medium.proofs.granularity.Granularity.finish_mark.Reads as granularity-Granularity-finish-mark
-use Rattle.medium.proofs.granularity.Granularity.size_at.Reads as granularity-Granularity-size-at
-use Rattle.medium.proofs.granularity.Granularity.object_header.Reads as granularity-Granularity-object-header
-use Rattle.medium.proofs.granularity.Granularity.block_header.Reads as granularity-Granularity-block-header
-use Rattle.medium.proofs.granularity.Granularity.type_at.Reads as granularity-Granularity-type-at
-use Rattle.medium.proofs.granularity.Granularity.layout_bit.Reads as granularity-Granularity-layout-bit
+use Rattle.medium.proofs.granularity.Granularity.most_strict.Reads as granularity-Granularity-most_strict
+use Rattle.medium.proofs.granularity.Granularity.finish_at.Reads as granularity-Granularity-finish_at
+use Rattle.medium.proofs.granularity.Granularity.delete_at.Reads as granularity-Granularity-delete_at
+use Rattle.medium.proofs.granularity.Granularity.finish_mark.Reads as granularity-Granularity-finish_mark
+use Rattle.medium.proofs.granularity.Granularity.size_at.Reads as granularity-Granularity-size_at
+use Rattle.medium.proofs.granularity.Granularity.object_header.Reads as granularity-Granularity-object_header
+use Rattle.medium.proofs.granularity.Granularity.block_header.Reads as granularity-Granularity-block_header
+use Rattle.medium.proofs.granularity.Granularity.type_at.Reads as granularity-Granularity-type_at
+use Rattle.medium.proofs.granularity.Granularity.layout_bit.Reads as granularity-Granularity-layout_bit
 use Rattle.medium.proofs.reach.Reads as reach
-use Rattle.medium.proofs.is_erased.Reads as is-erased
+use Rattle.medium.proofs.is_erased.Reads as is_erased
 use Rattle.medium.proofs.lend.Reads as lend
 use Rattle.medium.proofs.read.Reads as read
 use Rattle.medium.proofs.write.Reads as write
@@ -41,7 +41,7 @@ fuse_Answered_number_one _ _ r r' e e' p q = p ∙ sym q
 pub geometry_GeometryRead_number_one : One geometry-GeometryRead-number.Post (λ _ r e r' e'. r ≡ r')
 geometry_GeometryRead_number_one _ _ r r' e e' p q = p ∙ sym q
 
-pub geometry_of_numbers_one : One geometry-of-numbers.Post (λ _ r e r' e'. r ≡ r')
+pub geometry_of_numbers_one : One geometry-of_numbers.Post (λ _ r e r' e'. r ≡ r')
 geometry_of_numbers_one _ _ r r' e e' p q = geometry_one (p ∙ sym q)
 
 pub geometry_limit_one : One geometry-limit.Post (λ _ r e r' e'. r ≡ r')
@@ -62,7 +62,7 @@ geometry_align_one _ _ r r' e e' p q = counted_one (p ∙ sym q)
 pub granularity_GranularityRead_number_one : One granularity-GranularityRead-number.Post (λ _ r e r' e'. r ≡ r')
 granularity_GranularityRead_number_one _ _ r r' e e' p q = p ∙ sym q
 
-pub granularity_Granularity_of_byte_one : One granularity-Granularity-of-byte.Post (λ _ r e r' e'. r ≡ r')
+pub granularity_Granularity_of_byte_one : One granularity-Granularity-of_byte.Post (λ _ r e r' e'. r ≡ r')
 granularity_Granularity_of_byte_one _ _ r r' e e' p q = granularity_one (p ∙ sym q)
 
 pub granularity_Granularity_byte_one : One granularity-Granularity-byte.Post (λ _ r e r' e'. r ≡ r')
@@ -74,37 +74,37 @@ granularity_Granularity_width_one _ _ r r' e e' p q = p ∙ sym q
 pub granularity_Granularity_align_one : One granularity-Granularity-align.Post (λ _ r e r' e'. r ≡ r')
 granularity_Granularity_align_one _ _ r r' e e' p q = p ∙ sym q
 
-pub granularity_Granularity_most_strict_one : One granularity-Granularity-most-strict.Post (λ _ r e r' e'. r ≡ r')
+pub granularity_Granularity_most_strict_one : One granularity-Granularity-most_strict.Post (λ _ r e r' e'. r ≡ r')
 granularity_Granularity_most_strict_one _ _ r r' e e' p q = p ∙ sym q
 
-pub granularity_Granularity_finish_at_one : One granularity-Granularity-finish-at.Post (λ _ r e r' e'. r ≡ r')
+pub granularity_Granularity_finish_at_one : One granularity-Granularity-finish_at.Post (λ _ r e r' e'. r ≡ r')
 granularity_Granularity_finish_at_one _ _ r r' e e' p q = p ∙ sym q
 
-pub granularity_Granularity_delete_at_one : One granularity-Granularity-delete-at.Post (λ _ r e r' e'. r ≡ r')
+pub granularity_Granularity_delete_at_one : One granularity-Granularity-delete_at.Post (λ _ r e r' e'. r ≡ r')
 granularity_Granularity_delete_at_one _ _ r r' e e' p q = p ∙ sym q
 
-pub granularity_Granularity_finish_mark_one : One granularity-Granularity-finish-mark.Post (λ _ r e r' e'. r ≡ r')
+pub granularity_Granularity_finish_mark_one : One granularity-Granularity-finish_mark.Post (λ _ r e r' e'. r ≡ r')
 granularity_Granularity_finish_mark_one _ _ r r' e e' p q = p ∙ sym q
 
-pub granularity_Granularity_size_at_one : One granularity-Granularity-size-at.Post (λ _ r e r' e'. r ≡ r')
+pub granularity_Granularity_size_at_one : One granularity-Granularity-size_at.Post (λ _ r e r' e'. r ≡ r')
 granularity_Granularity_size_at_one _ _ r r' e e' p q = p ∙ sym q
 
-pub granularity_Granularity_object_header_one : One granularity-Granularity-object-header.Post (λ _ r e r' e'. r ≡ r')
+pub granularity_Granularity_object_header_one : One granularity-Granularity-object_header.Post (λ _ r e r' e'. r ≡ r')
 granularity_Granularity_object_header_one _ _ r r' e e' p q = p ∙ sym q
 
-pub granularity_Granularity_block_header_one : One granularity-Granularity-block-header.Post (λ _ r e r' e'. r ≡ r')
+pub granularity_Granularity_block_header_one : One granularity-Granularity-block_header.Post (λ _ r e r' e'. r ≡ r')
 granularity_Granularity_block_header_one _ _ r r' e e' p q = p ∙ sym q
 
-pub granularity_Granularity_type_at_one : One granularity-Granularity-type-at.Post (λ _ r e r' e'. r ≡ r')
+pub granularity_Granularity_type_at_one : One granularity-Granularity-type_at.Post (λ _ r e r' e'. r ≡ r')
 granularity_Granularity_type_at_one _ _ r r' e e' p q = p ∙ sym q
 
-pub granularity_Granularity_layout_bit_one : One granularity-Granularity-layout-bit.Post (λ _ r e r' e'. r ≡ r')
+pub granularity_Granularity_layout_bit_one : One granularity-Granularity-layout_bit.Post (λ _ r e r' e'. r ≡ r')
 granularity_Granularity_layout_bit_one _ _ r r' e e' p q = p ∙ sym q
 
 pub reach_one : One reach.Post (λ _ r e r' e'. r ≡ r')
 reach_one _ _ r r' e e' p q = p ∙ sym q
 
-pub is_erased_one : One is-erased.Post (λ _ r e r' e'. r ≡ r')
+pub is_erased_one : One is_erased.Post (λ _ r e r' e'. r ≡ r')
 is_erased_one _ _ r r' e e' p q = p ∙ sym q
 
 pub lend_one : One lend.Post (λ _ r e r' e'. r.now ≡ r'.now)

@@ -5,33 +5,33 @@ use Rattle.outcomes.proofs.Answers.{answered_one, counted_one, data_state_one, h
 use Rattle.objects.proofs.header.HeaderRead.number.Reads as header-HeaderRead-number
 use Rattle.objects.proofs.header.unset.Reads as header-unset
 use Rattle.objects.proofs.header.ObjectHeader.read.Reads as header-ObjectHeader-read
-use Rattle.objects.proofs.header.ObjectHeader.payload_size.Reads as header-ObjectHeader-payload-size
+use Rattle.objects.proofs.header.ObjectHeader.payload_size.Reads as header-ObjectHeader-payload_size
 use Rattle.objects.proofs.header.ObjectHeader.payload.Reads as header-ObjectHeader-payload
-use Rattle.objects.proofs.header.ObjectHeader.set_state.Reads as header-ObjectHeader-set-state
-use Rattle.objects.proofs.header.ObjectHeader.update_state.Reads as header-ObjectHeader-update-state
-use Rattle.objects.proofs.header.ObjectHeader.set_payload_size.Reads as header-ObjectHeader-set-payload-size
+use Rattle.objects.proofs.header.ObjectHeader.set_state.Reads as header-ObjectHeader-set_state
+use Rattle.objects.proofs.header.ObjectHeader.update_state.Reads as header-ObjectHeader-update_state
+use Rattle.objects.proofs.header.ObjectHeader.set_payload_size.Reads as header-ObjectHeader-set_payload_size
 use Rattle.objects.proofs.info.InfoRead.number.Reads as info-InfoRead-number
 use Rattle.objects.proofs.info.read.Reads as info-read
 use Rattle.objects.proofs.info.total.Reads as info-total
-use Rattle.objects.proofs.info.total_size.Reads as info-total-size
+use Rattle.objects.proofs.info.total_size.Reads as info-total_size
 use Rattle.objects.proofs.info.finalize.Reads as info-finalize
 use Rattle.objects.proofs.info.delete.Reads as info-delete
 use Rattle.objects.proofs.iterator.ObjectIterator.new.Reads as iterator-ObjectIterator-new
 use Rattle.objects.proofs.iterator.ObjectIterator.next.Reads as iterator-ObjectIterator-next
-use Rattle.objects.proofs.iterator.ObjectIterator.current_offset.Reads as iterator-ObjectIterator-current-offset
+use Rattle.objects.proofs.iterator.ObjectIterator.current_offset.Reads as iterator-ObjectIterator-current_offset
 use Rattle.objects.proofs.location.LocationRead.number.Reads as location-LocationRead-number
-use Rattle.objects.proofs.location.ObjectLocation.into_bytes.Reads as location-ObjectLocation-into-bytes
-use Rattle.objects.proofs.location.ObjectLocation.from_bytes.Reads as location-ObjectLocation-from-bytes
+use Rattle.objects.proofs.location.ObjectLocation.into_bytes.Reads as location-ObjectLocation-into_bytes
+use Rattle.objects.proofs.location.ObjectLocation.from_bytes.Reads as location-ObjectLocation-from_bytes
 use Rattle.objects.proofs.metadata.MetadataRead.number.Reads as metadata-MetadataRead-number
 use Rattle.objects.proofs.metadata.read.Reads as metadata-read
-use Rattle.objects.proofs.metadata.read_at_lem.Reads as metadata-read-at
-use Rattle.objects.proofs.metadata.MetadataObjectHeader.next_object_location.Reads as metadata-MetadataObjectHeader-next-object-location
+use Rattle.objects.proofs.metadata.read_at.Reads as metadata-read_at
+use Rattle.objects.proofs.metadata.MetadataObjectHeader.next_object_location.Reads as metadata-MetadataObjectHeader-next_object_location
 use Rattle.objects.proofs.metadata.MetadataObjectHeader.reset.Reads as metadata-MetadataObjectHeader-reset
 use Rattle.objects.proofs.payload.at.Reads as payload-at
 use Rattle.objects.proofs.payload.reach.Reads as payload-reach
 use Rattle.objects.proofs.payload.lend.Reads as payload-lend
-use Rattle.objects.proofs.payload.is_equal.Reads as payload-is-equal
-use Rattle.objects.proofs.payload.is_same.Reads as payload-is-same
+use Rattle.objects.proofs.payload.is_equal.Reads as payload-is_equal
+use Rattle.objects.proofs.payload.is_same.Reads as payload-is_same
 use Rattle.objects.proofs.reader.ReaderRead.number.Reads as reader-ReaderRead-number
 use Rattle.objects.proofs.reader.Reading.number.Reads as reader-Reading-number
 use Rattle.objects.proofs.reader.ObjectReader.new.Reads as reader-ObjectReader-new
@@ -43,8 +43,8 @@ use Rattle.objects.proofs.state.DataStateRead.number.Reads as state-DataStateRea
 use Rattle.objects.proofs.state.StateRead.number.Reads as state-StateRead-number
 use Rattle.objects.proofs.state.ObjectState.rank.Reads as state-ObjectState-rank
 use Rattle.objects.proofs.state.ObjectDataState.rank.Reads as state-ObjectDataState-rank
-use Rattle.objects.proofs.state.ObjectDataState.of_marks.Reads as state-ObjectDataState-of-marks
-use Rattle.objects.proofs.state.ObjectDataState.mark_at.Reads as state-ObjectDataState-mark-at
+use Rattle.objects.proofs.state.ObjectDataState.of_marks.Reads as state-ObjectDataState-of_marks
+use Rattle.objects.proofs.state.ObjectDataState.mark_at.Reads as state-ObjectDataState-mark_at
 use Rattle.objects.proofs.state.ObjectDataState.mark.Reads as state-ObjectDataState-mark
 use Rattle.objects.proofs.state.CompositeObjectState.rank.Reads as state-CompositeObjectState-rank
 use Rattle.objects.proofs.state.CompositeObjectState.state.Reads as state-CompositeObjectState-state
@@ -53,7 +53,7 @@ use Rattle.objects.proofs.state.CompositeObjectState.allocatable.Reads as state-
 use Rattle.objects.proofs.types.ObjectTypeRead.number.Reads as types-ObjectTypeRead-number
 use Rattle.objects.proofs.types.ObjectType.byte.Reads as types-ObjectType-byte
 use Rattle.objects.proofs.types.ObjectType.parse.Reads as types-ObjectType-parse
-use Rattle.objects.proofs.types.ObjectType.of_number.Reads as types-ObjectType-of-number
+use Rattle.objects.proofs.types.ObjectType.of_number.Reads as types-ObjectType-of_number
 
 pub header_HeaderRead_number_one : One header-HeaderRead-number.Post (λ _ r e r' e'. r ≡ r')
 header_HeaderRead_number_one _ _ r r' e e' p q = p ∙ sym q
@@ -64,19 +64,19 @@ header_unset_one _ _ r r' e e' p q = p ∙ sym q
 pub header_ObjectHeader_read_one : One header-ObjectHeader-read.Post (λ _ r e r' e'. r ≡ r')
 header_ObjectHeader_read_one _ _ r r' e e' p q = header_one (p.0 ∙ sym q.0)
 
-pub header_ObjectHeader_payload_size_one : One header-ObjectHeader-payload-size.Post (λ _ r e r' e'. r ≡ r')
+pub header_ObjectHeader_payload_size_one : One header-ObjectHeader-payload_size.Post (λ _ r e r' e'. r ≡ r')
 header_ObjectHeader_payload_size_one _ _ r r' e e' p q = p ∙ sym q
 
 pub header_ObjectHeader_payload_one : One header-ObjectHeader-payload.Post (λ _ r e r' e'. r ≡ r')
 header_ObjectHeader_payload_one _ _ r r' e e' p q = p.0 ∙ sym q.0
 
-pub header_ObjectHeader_set_state_one : One header-ObjectHeader-set-state.Post (λ _ r e r' e'. (r ≡ r') × (e.1.1.0.now ≡ e'.1.1.0.now))
+pub header_ObjectHeader_set_state_one : One header-ObjectHeader-set_state.Post (λ _ r e r' e'. (r ≡ r') × (e.1.1.0.now ≡ e'.1.1.0.now))
 header_ObjectHeader_set_state_one _ _ r r' e e' p q = headed_one r r' _ _ _ _ p.0 q.0 p.1 q.1
 
-pub header_ObjectHeader_update_state_one : One header-ObjectHeader-update-state.Post (λ _ r e r' e'. (r ≡ r') × (e.1.1.0.now ≡ e'.1.1.0.now))
+pub header_ObjectHeader_update_state_one : One header-ObjectHeader-update_state.Post (λ _ r e r' e'. (r ≡ r') × (e.1.1.0.now ≡ e'.1.1.0.now))
 header_ObjectHeader_update_state_one _ _ r r' e e' p q = headed_one r r' _ _ _ _ p.0 q.0 p.1 q.1
 
-pub header_ObjectHeader_set_payload_size_one : One header-ObjectHeader-set-payload-size.Post (λ _ r e r' e'. (r ≡ r') × (e.1.1.0.now ≡ e'.1.1.0.now))
+pub header_ObjectHeader_set_payload_size_one : One header-ObjectHeader-set_payload_size.Post (λ _ r e r' e'. (r ≡ r') × (e.1.1.0.now ≡ e'.1.1.0.now))
 header_ObjectHeader_set_payload_size_one _ _ r r' e e' p q = headed_one r r' _ _ _ _ p.0 q.0 p.1 q.1
 
 pub info_InfoRead_number_one : One info-InfoRead-number.Post (λ _ r e r' e'. r ≡ r')
@@ -88,7 +88,7 @@ info_read_one _ _ r r' e e' p q = info_one (p.0 ∙ sym q.0)
 pub info_total_one : One info-total.Post (λ _ r e r' e'. r ≡ r')
 info_total_one _ _ r r' e e' p q = p.0 ∙ sym q.0
 
-pub info_total_size_one : One info-total-size.Post (λ _ r e r' e'. r ≡ r')
+pub info_total_size_one : One info-total_size.Post (λ _ r e r' e'. r ≡ r')
 info_total_size_one _ _ r r' e e' p q = counted_one (p ∙ sym q)
 
 pub info_finalize_one : One info-finalize.Post (λ _ r e r' e'. (r ≡ r') × (e.1.0.now ≡ e'.1.0.now))
@@ -103,16 +103,16 @@ iterator_ObjectIterator_new_one _ _ r r' e e' p q = p ∙ sym q
 pub iterator_ObjectIterator_next_one : One iterator-ObjectIterator-next.Post (λ _ r e r' e'. r ≡ r')
 iterator_ObjectIterator_next_one _ _ r r' e e' p q = next_one (p ∙ sym q)
 
-pub iterator_ObjectIterator_current_offset_one : One iterator-ObjectIterator-current-offset.Post (λ _ r e r' e'. r ≡ r')
+pub iterator_ObjectIterator_current_offset_one : One iterator-ObjectIterator-current_offset.Post (λ _ r e r' e'. r ≡ r')
 iterator_ObjectIterator_current_offset_one _ _ r r' e e' p q = p ∙ sym q
 
 pub location_LocationRead_number_one : One location-LocationRead-number.Post (λ _ r e r' e'. r ≡ r')
 location_LocationRead_number_one _ _ r r' e e' p q = p ∙ sym q
 
-pub location_ObjectLocation_into_bytes_one : One location-ObjectLocation-into-bytes.Post (λ _ r e r' e'. (r ≡ r') × (e.1.1.0.now ≡ e'.1.1.0.now))
+pub location_ObjectLocation_into_bytes_one : One location-ObjectLocation-into_bytes.Post (λ _ r e r' e'. (r ≡ r') × (e.1.1.0.now ≡ e'.1.1.0.now))
 location_ObjectLocation_into_bytes_one _ _ r r' e e' p q = heard_one r r' _ _ _ _ p.0 q.0 p.1 q.1
 
-pub location_ObjectLocation_from_bytes_one : One location-ObjectLocation-from-bytes.Post (λ _ r e r' e'. r ≡ r')
+pub location_ObjectLocation_from_bytes_one : One location-ObjectLocation-from_bytes.Post (λ _ r e r' e'. r ≡ r')
 location_ObjectLocation_from_bytes_one _ _ r r' e e' p q = location_one (p ∙ sym q)
 
 pub metadata_MetadataRead_number_one : One metadata-MetadataRead-number.Post (λ _ r e r' e'. r ≡ r')
@@ -121,10 +121,10 @@ metadata_MetadataRead_number_one _ _ r r' e e' p q = p ∙ sym q
 pub metadata_read_one : One metadata-read.Post (λ _ r e r' e'. r ≡ r')
 metadata_read_one _ _ r r' e e' p q = metadata_one (p ∙ sym q)
 
-pub metadata_read_at_one : One metadata-read-at.Post (λ _ r e r' e'. r ≡ r')
+pub metadata_read_at_one : One metadata-read_at.Post (λ _ r e r' e'. r ≡ r')
 metadata_read_at_one _ _ r r' e e' p q = metadata_one (p ∙ sym q)
 
-pub metadata_MetadataObjectHeader_next_object_location_one : One metadata-MetadataObjectHeader-next-object-location.Post (λ _ r e r' e'. r ≡ r')
+pub metadata_MetadataObjectHeader_next_object_location_one : One metadata-MetadataObjectHeader-next_object_location.Post (λ _ r e r' e'. r ≡ r')
 metadata_MetadataObjectHeader_next_object_location_one _ _ r r' e e' p q = next_location_one (p ∙ sym q)
 
 pub metadata_MetadataObjectHeader_reset_one : One metadata-MetadataObjectHeader-reset.Post (λ _ r e r' e'. r ≡ r')
@@ -139,10 +139,10 @@ payload_reach_one _ _ r r' e e' p q = p ∙ sym q
 pub payload_lend_one : One payload-lend.Post (λ _ r e r' e'. r.now ≡ r'.now)
 payload_lend_one _ _ r r' e e' p q = p ∙ sym q
 
-pub payload_is_equal_one : One payload-is-equal.Post (λ _ r e r' e'. r ≡ r')
+pub payload_is_equal_one : One payload-is_equal.Post (λ _ r e r' e'. r ≡ r')
 payload_is_equal_one _ _ r r' e e' p q = p ∙ sym q
 
-pub payload_is_same_one : One payload-is-same.Post (λ _ r e r' e'. r ≡ r')
+pub payload_is_same_one : One payload-is_same.Post (λ _ r e r' e'. r ≡ r')
 payload_is_same_one _ _ r r' e e' p q = p ∙ sym q
 
 pub reader_ReaderRead_number_one : One reader-ReaderRead-number.Post (λ _ r e r' e'. r ≡ r')
@@ -178,10 +178,10 @@ state_ObjectState_rank_one _ _ r r' e e' p q = p ∙ sym q
 pub state_ObjectDataState_rank_one : One state-ObjectDataState-rank.Post (λ _ r e r' e'. r ≡ r')
 state_ObjectDataState_rank_one _ _ r r' e e' p q = p ∙ sym q
 
-pub state_ObjectDataState_of_marks_one : One state-ObjectDataState-of-marks.Post (λ _ r e r' e'. r ≡ r')
+pub state_ObjectDataState_of_marks_one : One state-ObjectDataState-of_marks.Post (λ _ r e r' e'. r ≡ r')
 state_ObjectDataState_of_marks_one _ _ r r' e e' p q = data_state_one (p ∙ sym q)
 
-pub state_ObjectDataState_mark_at_one : One state-ObjectDataState-mark-at.Post (λ _ r e r' e'. r ≡ r')
+pub state_ObjectDataState_mark_at_one : One state-ObjectDataState-mark_at.Post (λ _ r e r' e'. r ≡ r')
 state_ObjectDataState_mark_at_one _ _ r r' e e' p q = p ∙ sym q
 
 pub state_ObjectDataState_mark_one : One state-ObjectDataState-mark.Post (λ _ r e r' e'. r ≡ r')
@@ -208,5 +208,5 @@ types_ObjectType_byte_one _ _ r r' e e' p q = p ∙ sym q
 pub types_ObjectType_parse_one : One types-ObjectType-parse.Post (λ _ r e r' e'. r ≡ r')
 types_ObjectType_parse_one _ _ r r' e e' p q = type_one (p ∙ sym q)
 
-pub types_ObjectType_of_number_one : One types-ObjectType-of-number.Post (λ _ r e r' e'. r ≡ r')
+pub types_ObjectType_of_number_one : One types-ObjectType-of_number.Post (λ _ r e r' e'. r ≡ r')
 types_ObjectType_of_number_one _ _ r r' e e' p q = object_type_one (p ∙ sym q)

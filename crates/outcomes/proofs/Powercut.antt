@@ -2,7 +2,7 @@
 use mathlib.Core.Path.{◌≡◌}
 use Rattle.outcomes.proofs.One.{One}
 use Rattle.outcomes.proofs.Answers.{headed_one}
-use Rattle.powercut.proofs.move_object.Reads as move-object
+use Rattle.powercut.proofs.move_object.Reads as move_object
 
-pub move_object_one : One move-object.Post (λ _ r e r' e'. (r ≡ r') × (e.1.0.now ≡ e'.1.0.now))
+pub move_object_one : One move_object.Post (λ _ r e r' e'. (r ≡ r') × (e.1.0.now ≡ e'.1.0.now))
 move_object_one _ _ r r' e e' p q = headed_one r r' _ _ _ _ p.0 q.0 p.1.0 q.1.0

@@ -6,10 +6,10 @@ use Rattle.writer.proofs.writer.ObjectWriter.allocate.Reads as writer-ObjectWrit
 use Rattle.writer.proofs.writer.ObjectWriter.write.Reads as writer-ObjectWriter-write
 use Rattle.writer.proofs.writer.ObjectWriter.finalize.Reads as writer-ObjectWriter-finalize
 use Rattle.writer.proofs.writer.ObjectWriter.delete.Reads as writer-ObjectWriter-delete
-use Rattle.writer.proofs.writer.ObjectWriter.write_to.Reads as writer-ObjectWriter-write-to
+use Rattle.writer.proofs.writer.ObjectWriter.write_to.Reads as writer-ObjectWriter-write_to
 use Rattle.writer.proofs.writer.ObjectWriter.space.Reads as writer-ObjectWriter-space
-use Rattle.writer.proofs.writer.ObjectWriter.payload_size.Reads as writer-ObjectWriter-payload-size
-use Rattle.writer.proofs.writer.ObjectWriter.total_size.Reads as writer-ObjectWriter-total-size
+use Rattle.writer.proofs.writer.ObjectWriter.payload_size.Reads as writer-ObjectWriter-payload_size
+use Rattle.writer.proofs.writer.ObjectWriter.total_size.Reads as writer-ObjectWriter-total_size
 
 pub writer_ObjectWriter_allocate_one : One writer-ObjectWriter-allocate.Post (λ _ r e r' e'. (r ≡ r') × (e.1.0.now ≡ e'.1.0.now))
 writer_ObjectWriter_allocate_one _ _ r r' e e' p q = allocated_one r r' _ _ _ _ p.0 q.0 p.1 q.1
@@ -23,14 +23,14 @@ writer_ObjectWriter_finalize_one _ _ r r' e e' p q = writing_one r r' _ _ _ _ p.
 pub writer_ObjectWriter_delete_one : One writer-ObjectWriter-delete.Post (λ _ r e r' e'. (r ≡ r') × (e.1.1.0.now ≡ e'.1.1.0.now))
 writer_ObjectWriter_delete_one _ _ r r' e e' p q = writing_one r r' _ _ _ _ p.0 q.0 p.1 q.1
 
-pub writer_ObjectWriter_write_to_one : One writer-ObjectWriter-write-to.Post (λ _ r e r' e'. (r ≡ r') × (e.1.0.now ≡ e'.1.0.now))
+pub writer_ObjectWriter_write_to_one : One writer-ObjectWriter-write_to.Post (λ _ r e r' e'. (r ≡ r') × (e.1.0.now ≡ e'.1.0.now))
 writer_ObjectWriter_write_to_one _ _ r r' e e' p q = wrote_one r r' _ _ (p ∙ sym q)
 
 pub writer_ObjectWriter_space_one : One writer-ObjectWriter-space.Post (λ _ r e r' e'. r ≡ r')
 writer_ObjectWriter_space_one _ _ r r' e e' p q = counted_one (p ∙ sym q)
 
-pub writer_ObjectWriter_payload_size_one : One writer-ObjectWriter-payload-size.Post (λ _ r e r' e'. r ≡ r')
+pub writer_ObjectWriter_payload_size_one : One writer-ObjectWriter-payload_size.Post (λ _ r e r' e'. r ≡ r')
 writer_ObjectWriter_payload_size_one _ _ r r' e e' p q = counted_one (p ∙ sym q)
 
-pub writer_ObjectWriter_total_size_one : One writer-ObjectWriter-total-size.Post (λ _ r e r' e'. r ≡ r')
+pub writer_ObjectWriter_total_size_one : One writer-ObjectWriter-total_size.Post (λ _ r e r' e'. r ≡ r')
 writer_ObjectWriter_total_size_one _ _ r r' e e' p q = counted_one (p ∙ sym q)

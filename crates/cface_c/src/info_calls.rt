@@ -1,0 +1,60 @@
+// Objects that are there, for C: known by their headers. What stands behind each export, and what it does, is in crates/cface.
+// Made by tools/cface.
+ghost use Rattle.std.specs.Prelude.{◌≡◌};
+ghost use Rattle.objects.specs.declared.state.ObjectDataState.TheVariants.{Valid, Deleted};
+ghost use Rattle.medium.specs.Operation.{run};
+ghost use Rattle.objects.specs.Header.{set_state};
+ghost use Rattle.objects.specs.Info.{info_at, size_of_object};
+ghost use Rattle.crossing.specs.Crossing.{told, two, telling_by, geometry_in, telling, plain, asked, crossed_with, crossing_with, fuse_of, given};
+ghost use Rattle.crossing.specs.Values.{info_out, located, header_of, header_numbers};
+
+#[unsafe(no_mangle)]
+pub extern "C" fn stumpchoir_info_read(
+    geometry: &[u32; 6],
+    image: &[u8],
+    block: u32,
+    offset: u32,
+    found: &mut u32,
+    header: &mut [u32; 5],
+) -> u8
+    ensures { told result (two found.new header.new) ≡ telling_by info_out (two found.old header.old) (info_at (geometry_in geometry.now) (located block offset) image.now) }
+{
+    cface::info_calls::stumpchoir_info_read(geometry, image, block, offset, found, header)
+}
+
+#[unsafe(no_mangle)]
+pub extern "C" fn stumpchoir_info_total_size(
+    geometry: &[u32; 6],
+    header: &[u32; 5],
+    total_size: &mut u64,
+) -> u8
+    ensures { told result total_size.new ≡ telling plain total_size.old (asked (geometry_in geometry.now) (header_of header.now) (λ g h. size_of_object g h)) }
+{
+    cface::info_calls::stumpchoir_info_total_size(geometry, header, total_size)
+}
+
+#[unsafe(no_mangle)]
+pub extern "C" fn stumpchoir_info_finalize(
+    geometry: &[u32; 6],
+    image: &mut [u8],
+    fused: bool,
+    units: &mut u32,
+    header: &mut [u32; 5],
+) -> u8
+    ensures { crossed_with result units.new image.new header.new ≡ crossing_with header_numbers units.old header.old (run (fuse_of fused units.old) (given (geometry_in geometry.now) (header_of header.old) (λ g h. set_state g h Valid)) image.old) }
+{
+    cface::info_calls::stumpchoir_info_finalize(geometry, image, fused, units, header)
+}
+
+#[unsafe(no_mangle)]
+pub extern "C" fn stumpchoir_info_delete(
+    geometry: &[u32; 6],
+    image: &mut [u8],
+    fused: bool,
+    units: &mut u32,
+    header: &mut [u32; 5],
+) -> u8
+    ensures { crossed_with result units.new image.new header.new ≡ crossing_with header_numbers units.old header.old (run (fuse_of fused units.old) (given (geometry_in geometry.now) (header_of header.old) (λ g h. set_state g h Deleted)) image.old) }
+{
+    cface::info_calls::stumpchoir_info_delete(geometry, image, fused, units, header)
+}
