@@ -70,8 +70,3 @@ def public(crate, hidden=False):
                 stack[-1:] = []
             else:
                 stack.append(m['mod'] or m['impl'])
-
-
-def is_mute(function):
-    """Whether a contract could say nothing of it: it answers nothing, and is lent nothing to change. Such a function only prints."""
-    return not function.answers and not any(kind.startswith('&mut') for _, kind in function.params)

@@ -2,7 +2,7 @@
 use std::io::{Error, Print};
 
 // A line: what failed, as the caller names it, a colon and the error's text.
-pub fn fail(rt: &HostRuntime, what: &[u8], error: Error) {
+pub(crate) fn fail(rt: &HostRuntime, what: &[u8], error: Error) {
     tell(rt, what);
     tell(rt, b": ");
     tell_reason(rt, error);

@@ -8,6 +8,5 @@ mod failure;
 mod pair;
 mod whole;
 
-pub use failure::fail;
 pub use pair::{Loaded, load};
 pub use whole::{FileRead, read};

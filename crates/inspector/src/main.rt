@@ -14,7 +14,6 @@ use medium::geometry::Geometry;
 use objects::header::ObjectHeader;
 use objects::iterator::{Next, ObjectIterator};
 use std::env::{Env, FillError};
-use std::io::Error;
 
 fn print_refusal(rt: &HostRuntime, k: u8) {
     let mut line = [0; 128];
@@ -79,17 +78,16 @@ fn inspect(rt: &HostRuntime, geometry: &[u8], image: &[u8]) {
     }
 }
 
-// The C library's numbers for an argument that is missing, and for one that is too long.
-const EINVAL: i32 = 22;
-
-const ENAMETOOLONG: i32 = 36;
-
+// What the C library says of an argument that is missing, and of one that is too long.
 fn fail_at_name(rt: &HostRuntime, what: &[u8], e: FillError) {
-    let code = match e {
-        FillError::NotPresent => EINVAL,
-        FillError::TooLong => ENAMETOOLONG,
+    let reason: &[u8] = match e {
+        FillError::NotPresent => b"Invalid argument",
+        FillError::TooLong => b"File name too long",
     };
-    files::fail(rt, what, Error::from_raw_os_error(code));
+    let _ = rt.stderr().write_all(what);
+    let _ = rt.stderr().write_all(b": ");
+    let _ = rt.stderr().write_all(reason);
+    let _ = rt.stderr().write_all(b"\n");
 }
 
 // The files that two arguments name.
