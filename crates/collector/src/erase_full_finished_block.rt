@@ -26,7 +26,8 @@ fn find_deleted(g: Geometry, image: &[u8], b: u32) -> Finding
             return Finding::Erase.at_stop(n);
         };
         let state = h.state;
-        if state.rank() != 3 {
+        let is_left = state.rank() != 3;
+        if is_left {
             return Finding::Keep;
         }
         i = j;

@@ -107,7 +107,8 @@ impl Visitor {
                     opened: true,
                 };
                 let state = h.state;
-                if state.rank() == 2 {
+                let is_finished = state.rank() == 2;
+                if is_finished {
                     return Step::Object(h, v);
                 }
                 Step::On(v)
