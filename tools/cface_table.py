@@ -437,7 +437,7 @@ HEAD = r"""/* Stumpchoir for C: the low-level layer of norfs over an image in me
  * a false one. Bytes to write that are longer than a block get 3, by a writer 5, and so does stumpchoir_read of so many, even of SIZE_MAX; that
  * is all a test can see.
  * There is no heap and no state beside what is lent, so calls on different images may run at the same time. Calls take less than 16 KiB of
- * stack (5,336 to 8,424 bytes with the thread's own were measured by tools/c-sample).
+ * stack (at most 8,552 bytes with the thread's own were measured by tools/c-sample).
  *
  * To link: `tools/library`, then cc prog.c with each archive in target/staticlib (x86-64 Linux).
  */
