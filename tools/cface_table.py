@@ -13,40 +13,28 @@ A row is a function:
   leaves   what a call leaves in numbers that are lent, over g and the parameters as they went in
   hand     how the answer goes out (HANDS), where `calls` does not do it itself: then `as` or `by` says how the values cross
   before   lines of code before the call
-  told     what the call's promise gives, where it is not just the definition; `ended` the same of a store
+  told     what the call's promise gives, where it is not just the definition
   small    why a number that goes out fits its place, where it is wider in the library: {called} is the call, {told} its promise
   homes    'crate word' for a word of the contract that stands in more crates than one
 """
 
-# ---- values that are read from numbers: the code, the definition, and the function that reads
+# ---- values that are read from numbers: the code, and the definition
 
-def value(var, of, read, means, reads, **more):
-    code = f'let of = {read};\nlet {of}({var}) = of else {{\n    return {{refuse}}of.number());\n}};'
-    code = code.replace('{\n', '{{\n').replace('\n};', '\n}};')
-    return dict(var=var, code=code, means=means, case=of.split('::')[-1], reads=reads, **more)
+def value(var, read, means, **more):
+    code = f'let {var} = match {read} {{{{\n    Ok({var}) => {var},\n    Err(e) => return {{refuse}}e.number()),\n}}}};'
+    return dict(var=var, code=code, means=means, **more)
 
 
 VALUES = {
-    'header': value('h', 'HeaderRead::Got', 'values::header_of(header)', 'header_of header', 'header_of',
-                    uses={'HeaderRead': 'objects::header::HeaderRead'}),
-    'target': value('t', 'TargetRead::Got', 'values::target_of(header, state)', 'target_of header state', 'target_of',
-                    uses={'TargetRead': 'crossing::values::TargetRead'}),
-    'reader': value('r', 'ReaderRead::Got', 'values::reader_of(reader)', 'reader_of reader', 'reader_of',
-                    uses={'ReaderRead': 'objects::reader::ReaderRead'}),
-    'metadata': value('m', 'MetadataRead::Got', 'values::metadata_of(metadata)', 'metadata_of metadata', 'metadata_of',
-                      uses={'MetadataRead': 'objects::metadata::MetadataRead'}),
-    'record': value('r', 'BlockInfoRead::Got', 'records::record_of(record)', 'record_of record', 'record_of',
-                    uses={'BlockInfoRead': 'blocks::record::BlockInfoRead'}),
-    'type': value('t', 'ObjectTypeRead::Got', 'ObjectType::of_number(kind as u32)', 'object_type_of kind', 'of_number',
-                  uses={'ObjectTypeRead': 'objects::types::ObjectTypeRead', 'ObjectType': 'objects::types::ObjectType'}),
-    'block_type': value('t', 'BlockTypeRead::Got', 'records::type_of(kind)', 'block_type_of kind', 'type_of',
-                        uses={'BlockTypeRead': 'crossing::records::BlockTypeRead'}),
-    'kind': value('k', 'KindRead::Got', 'BlockHeaderKind::of_number(kind)', 'kind_of kind', 'of_number',
-                  uses={'KindRead': 'blocks::header::KindRead', 'BlockHeaderKind': 'blocks::header::BlockHeaderKind'}),
-    # a writer holds an array, so it stands beside the answer of its reading
-    'writer': dict(var='w', means='writer_of writer', case='Done', reads='writer_of', uses={'Answered': 'medium::fuse::Answered'},
-                   code='let of = writers::writer_of(writer);\nlet read = of.answer;\nlet Answered::Done = read else {{\n'
-                        '    return {refuse}read.number());\n}};\nlet w = of.writer;'),
+    'header': value('h', 'values::header_of(header)', 'header_of header'),
+    'target': value('t', 'values::target_of(header, state)', 'target_of header state'),
+    'reader': value('r', 'values::reader_of(reader)', 'reader_of reader'),
+    'metadata': value('m', 'values::metadata_of(metadata)', 'metadata_of metadata'),
+    'record': value('r', 'records::record_of(record)', 'record_of record'),
+    'type': value('t', 'ObjectType::try_from(kind as u32)', 'object_type_of kind', uses={'ObjectType': 'objects::types::ObjectType'}),
+    'block_type': value('t', 'records::type_of(kind)', 'block_type_of kind'),
+    'kind': value('k', 'BlockHeaderKind::try_from(kind)', 'kind_of kind', uses={'BlockHeaderKind': 'blocks::header::BlockHeaderKind'}),
+    'writer': value('w', 'writers::writer_of(writer)', 'writer_of writer'),
 }
 
 # ---- how an answer goes out: the function that hands it, and how its value crosses
@@ -57,15 +45,16 @@ HANDS = {
     'swept': dict(code='sweeps::hand_back'),
     'headed': {'code': 'outs::hand_back', 'as': 'header_numbers'},
     'new_writer': {'code': 'writers::hand_out', 'as': 'writer_numbers'},
+    # the numbers of a writer that came in say after 8 that it is spent
     'writer': {'code': 'writers::hand_back', 'as': 'writer_numbers', 'spent': True},
     'total': {'code': 'writers::hand_total', 'as': 'plain'},
-    'count': {'code': 'call::hand_count', 'as': 'plain'},
-    'flag': {'code': 'records::hand_flag', 'as': 'flag_number'},
-    'record': {'code': 'records::hand_record', 'as': 'record_numbers'},
-    'block_header': {'code': 'records::hand_header', 'as': 'block_header_numbers'},
-    'header': {'code': 'outs::hand_header', 'as': 'header_numbers'},
+    'count': {'code': 'hand::hand', 'as': 'plain'},
+    'flag': {'code': 'hand::hand', 'as': 'flag_number'},
+    'record': {'code': 'hand::hand', 'as': 'record_numbers'},
+    'block_header': {'code': 'hand::hand', 'as': 'block_header_numbers'},
+    'header': {'code': 'hand::hand', 'as': 'header_numbers'},
     'info': {'code': 'outs::hand_info', 'by': 'info_out'},
-    'location': {'code': 'outs::hand_location', 'as': 'location_numbers'},
+    'location': {'code': 'hand::hand', 'as': 'location_numbers'},
     'next': {'code': 'outs::hand_next', 'by': 'next_out'},
     'reader': {'code': 'cursors::hand_reader', 'as': 'reader_numbers'},
     'metadata': {'code': 'cursors::hand_metadata', 'as': 'metadata_numbers'},
@@ -105,8 +94,8 @@ HEADERS = [
     dict(name='header_read', says='The header at a place.', place='image', params='block offset header>header',
          calls='objects::header::ObjectHeader::read', args='g, image, at', means='header_at g at image', hand='header'),
     dict(name='update_state', says='Stores the mark of a state that lies ahead, or is 10; the present state stores nothing, backwards is 4, Free is 9.',
-         place='store', params='header=header state:u8', value='target', before='let h = t.header;\nlet to = t.state;',
-         calls='objects::header::ObjectHeader::update_state', on='h', args='g, image, f, to',
+         place='store', params='header=header state:u8', value='target',
+         calls='objects::header::ObjectHeader::update_state', on='t.header', args='g, image, f, t.state',
          means='update_state g t.header t.state', hand='headed'),
     dict(name='set_payload_size', says='Stores the low s bytes of a size that is not set yet, or is 10; one that is set is 4.', place='store',
          params='header=header payload_size', value='header',
@@ -119,8 +108,8 @@ WRITERS = [
          says='Stores the type (8F, 8E or 8D, else 4) of a new object, over Free or over Allocated of the same type: its writer. Under '
               'the strict mark the second is 10, and the first where its unit is programmed.',
          place='store', params='block offset kind:type writer>writer', value='type',
-         calls='writer::writer::ObjectWriter::allocate', args='g, image, f, at, t', means='allocate g at t', hand='new_writer',
-         small='small_by _ _ _ _ {called}.result.answer {called}.result.writer {told} (allocate_small _ _ _ _ _)'),
+         calls='writer::writer::ObjectWriter::try_allocate', args='g, image, f, at, t', means='allocate g at t', hand='new_writer',
+         small='small_by _ _ _ _ {called}.result {told} (λ v. allocate_small _ _ _ _ v)'),
     dict(name='writer_space', says='The payload bytes that still fit; 9 where the writer stands past the end of its block.', place='alone',
          params='writer<writer space>u64', value='writer', calls='writer::writer::ObjectWriter::space', on='w', args='g',
          means='space_of g w', hand='count'),
@@ -132,26 +121,26 @@ WRITERS = [
     dict(name='writer_write',
          says='Takes payload bytes: whole words are stored, less than a word is held. 5 where they are more than the space. The word that held '
               'bytes fill is a store of its own: 10 of the words behind it leaves it there.',
-         place='store', params='writer=writer src[]', value='writer', calls='writer::writer::ObjectWriter::write', on='w',
+         place='store', params='writer=writer src[]', value='writer', calls='writer::writer::ObjectWriter::try_write', on='w',
          args='g, image, f, src', means='write_some g w src', hand='writer',
-         small='small_by _ _ _ _ {called}.result.answer {called}.result.writer {told} (some_small _ _ _ _ _)'),
+         small='small_by _ _ _ _ {called}.result {told} (λ v. some_small _ _ _ v _)'),
     dict(name='writer_finalize', says='Ends the object: what is held, the size, and the mark of a Finalized object; each store can be 10.',
-         place='store', params='writer=writer', value='writer', calls='writer::writer::ObjectWriter::finalize', on='w', args='g, image, f',
+         place='store', params='writer=writer', value='writer', calls='writer::writer::ObjectWriter::try_finalize', on='w', args='g, image, f',
          means='finalize g w', hand='writer',
-         small='small_by _ _ _ _ {called}.result.answer {called}.result.writer {told} (finalize_small _ _ _ _)'),
+         small='small_by _ _ _ _ {called}.result {told} (λ v. finalize_small _ _ _ v)'),
     dict(name='writer_delete',
          says='Deletes the object: one that is not Finalized gets its size first; of one that is Free or Deleted nothing is stored. Each store '
               'can be 10.',
-         place='store', params='writer=writer', value='writer', calls='writer::writer::ObjectWriter::delete', on='w', args='g, image, f',
+         place='store', params='writer=writer', value='writer', calls='writer::writer::ObjectWriter::try_delete', on='w', args='g, image, f',
          means='delete g w', hand='writer',
-         small='small_by _ _ _ _ {called}.result.answer {called}.result.writer {told} (delete_small _ _ _ _)'),
+         small='small_by _ _ _ _ {called}.result {told} (λ v. delete_small _ _ _ v)'),
 ]
 
 READERS = [
     dict(name='reader_new', says='A reader of the Finalized object at a place, or of any object that is there.', place='image',
          params='block offset allow_non_finalized:bool reader>reader', calls='objects::reader::ObjectReader::new',
          args='g, image, at, allow_non_finalized', means='reader_at g at allow_non_finalized image', hand='reader',
-         small='new_small _ _ _ _ {called}.result {told}'),
+         small='new_small _ _ _ _ _ {told}'),
     dict(name='reader_len', says='The payload size of the reader\'s object, 0 where it is unset.', place='alone',
          params='reader<reader len>u64', value='reader', calls='objects::reader::ObjectReader::len', on='r', args='g',
          means='reader_len g r', hand='count'),
@@ -181,16 +170,16 @@ INFOS = [
 METADATA = [
     dict(name='info_read_metadata', says='Path hash and name location of an object that is known by its header.', place='image',
          params='header<header metadata>metadata', value='header', calls='objects::metadata::read', args='g, image, h',
-         means='read_metadata g h image', hand='metadata', small='metadata_small _ _ _ {called}.result {told}'),
+         means='read_metadata g h image', hand='metadata', small='metadata_small _ _ _ _ {told}'),
     dict(name='location_read_metadata', says='The same of the object at a place; a Free place is 2.', place='image',
          params='block offset metadata>metadata', calls='objects::metadata::read_at', args='g, image, at', means='metadata_at g at image',
-         hand='metadata', small='metadata_at_small _ _ _ {called}.result {told}'),
+         hand='metadata', small='metadata_at_small _ _ _ _ {told}'),
     dict(name='metadata_next_object_location',
          says='The location of the next data object: *found is 1 with it, or 0 at the end of the list (then metadata and location stay).',
          place='image', params='metadata=metadata found>u32 location>location', value='metadata',
          calls='objects::metadata::MetadataObjectHeader::next_object_location', on='m', args='g, image',
          means='next_location g m image', hand='next_location',
-         small='next_small _ _ _ {called}.result {told}'),
+         small='next_small _ _ _ _ {told}'),
     dict(name='metadata_reset', says='Back to the first data object.', place='alone', params='metadata=metadata',
          calls='cface::cursors::reset', args='g, metadata', means='fitting g (reset_in metadata)', **{'as': 'metadata_numbers'}),
 ]
@@ -211,7 +200,7 @@ MOVING = [
          says='An object of a type (8F, 8E or 8D, else 4), written whole: *total_size is its header and payload together. The type is stored '
               'first, and 5, where the payload does not fit, leaves it there; 10 of a later store leaves those before it.',
          place='store', params='block offset kind:type src[] total_size>u64', value='type', calls='writer::writer::ObjectWriter::write_to',
-         args='g, image, f, at, t, src', means='write_to g at t src', hand='total', ended='wrote_ended c.write_to-a.result _ ∙ {}'),
+         args='g, image, f, at, t, src', means='write_to g at t src', hand='total'),
     dict(name='copy_object',
          says='The Finalized object that a header names, anew at another place: its header there. The type is the one that the header says. '
               '10 leaves what was stored of it.',

@@ -8,13 +8,21 @@ from common import ITEM, code, listed, past, read
 
 CLAUSE = re.compile(r'\s*\b(requires|ensures)\b\*?\s*(\w*)[^{]*\{')
 
-# name: crate::module::function; clauses: (kind, name or '', text) in order; params: (name, type) in order; answers: whether it returns a value
-Function = collections.namedtuple('Function', 'name clauses params answers')
+# name: crate::module::function; clauses: (kind, name or '', text) in order; params: (name, type) in order; answers: whether it returns a value;
+# types: its type parameters, as they are written
+Function = collections.namedtuple('Function', 'name clauses params answers types', defaults=('',))
 
 
 def parameters(text):
-    """The parameters between a function's brackets. A comma within brackets of a type has no colon of its own behind it."""
-    for part in re.split(r',(?![^\[]*\])', text):
+    """The parameters between a function's brackets: a comma within brackets of a type ends none."""
+    depth, parts = 0, ['']
+    for c in text:
+        depth += (c in '([<') - (c in ')]>')
+        if c == ',' and not depth:
+            parts.append('')
+        else:
+            parts[-1] += c
+    for part in parts:
         name, _, kind = (p.strip() for p in part.partition(':'))
         if name:
             yield name.removeprefix('mut '), kind
@@ -38,6 +46,19 @@ def clauses(text, at):
     return found, None
 
 
+CONVERSION = re.compile(r'^impl (From|TryFrom)<([^>]*)> for (\w+) \{\n(.*?)^\}', re.M | re.S)
+
+
+def conversions(home, text):
+    """The conversions that a file's types have by From and TryFrom: their contract is the ghost member, a relation of what goes in and what comes out."""
+    for trait, source, target, body in CONVERSION.findall(text):
+        put, got, says = re.search(r'_gives = \{ λ (\w+) (\w+)\. (.*) \};', body).groups()
+        told = re.sub(rf'(?<![\w.]){got}(?![\w.])', 'result', says)
+        word = lambda kind: ''.join(w[0].upper() + w[1:] for w in re.findall(r'\w+', f'Array {kind}' if kind.startswith('[') else kind))
+        method = {'From': 'from', 'TryFrom': 'try_from'}[trait]
+        yield Function('::'.join(home + [word(target) + trait + word(source), method]), [('ensures', '', told)], [(put, source)], True)
+
+
 def libraries():
     """The library crates that crates.txt lists, in its order. A static library only hands on what a library has, and nothing can stand on it."""
     return [name for name, words, _ in listed() if 'staticlib' not in words and os.path.isfile(f'crates/{name}/src/lib.rt')]
@@ -52,6 +73,7 @@ def public(crate, hidden=False):
     for file, text in texts.items():
         below = os.path.relpath(file, f'crates/{crate}/src')[:-3].split(os.sep)
         home = [] if below == ['lib'] else below
+        yield from conversions([crate] + home, text)
         stack, at = [], 0
         while m := ITEM.search(text, at):
             at = m.end()
@@ -61,10 +83,12 @@ def public(crate, hidden=False):
                 closed_off = any(p in closed for p in path[:-1]) and not re.search(rf'\b{m["fn"]}\b', again)
                 shown = (m['access'] or '').strip() == 'pub' and not closed_off
                 if end and (hidden or shown or m['c']):
-                    behind = past(text, at)
-                    inside = text[at:behind].strip()[1:-1]
+                    opens = text.index('(', at)  # behind type parameters
+                    behind = past(text, opens)
+                    inside = text[opens + 1:behind - 1]
                     answers = text[behind:].lstrip().startswith('->')
-                    yield Function('::'.join([crate] + path), told, list(parameters(inside)), answers)
+                    types = text[at:opens].strip().removeprefix('<').removesuffix('>')
+                    yield Function('::'.join([crate] + path), told, list(parameters(inside)), answers, types)
                 at = end or at
             elif m.group() == '}':
                 stack[-1:] = []

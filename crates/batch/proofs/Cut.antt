@@ -8,7 +8,7 @@ use native.Mathlib.Omega.{arith}
 use lib.ListN.{length, get_or, length-take, length-drop}
 use Rattle.medium.specs.declared.geometry.Geometry.{Geometry}
 use Rattle.medium.specs.declared.fuse.Fuse.TheVariants.{Absent, Units}
-use Rattle.medium.specs.declared.fuse.Stored.TheVariants.{Done}
+use Rattle.std.specs.Prelude.{Ok}
 use Rattle.medium.specs.All.{All}
 use Rattle.medium.specs.Geometry.{check_of, address}
 use Rattle.medium.specs.Units.{FlashUnit}
@@ -216,7 +216,7 @@ batch_powered g b e records payload img t v h =
     let s = both img (0 ∷ []) in
     let d = c.all_done (omega arith) in
     let same : (batch (Units k) g b records payload img).state ≡ (batch Absent g b records payload img).state = run_done (Units k) o s tt d in
-    let told : (o s).answer ≡ done tt = value_of (Units k) o s (batch (Units k) g b records payload img).state (Done (batch (Units k) g b records payload img).fuse) tt (batch (Units k) g b records payload img).fuse
+    let told : (o s).answer ≡ done tt = value_of (Units k) o s (batch (Units k) g b records payload img).state (Ok (batch (Units k) g b records payload img).fuse) tt (batch (Units k) g b records payload img).fuse
     (ap (λ (x : Answer (Unit {0})). record { answer = x; fuse = (batch (Units k) g b records payload img).fuse; state = (batch (Units k) g b records payload img).state }) (sym d)) refl in
     let n = ap (λ (x : BatchEnd). x.state.table) (as_one g b e records payload img t v h k) ∙ all_done g b payload (Units k) 0 (records_in records) img (ap (λ (x : BatchEnd). x.answer) (sym (as_one g b e records payload img t v h k)) ∙ d) in
     ap₂ (λ (x : Answer (Unit {0})) (y : Both). record { answer = x; fuse = Absent; state = y }) told (sym same)

@@ -12,7 +12,6 @@ use Rattle.medium.specs.Operation.{apply, Answer, done, refused, or_refuse, Run,
 use Rattle.medium.specs.Beside.{Event, field, Both, both, beside, units, on_image}
 use Rattle.medium.proofs.Left.{bind_events, asked}
 use Rattle.medium.proofs.Beside.{length_run, image_left, image_answer}
-use Rattle.writer.specs.declared.writer.Wrote.TheVariants as wrote
 use Rattle.batch.specs.declared.record.Record.{Record}
 use Rattle.batch.specs.Batch.{per_record, batch_record, records_in, batchable, write_record, count_to, writing, write_all}
 use Rattle.batch.specs.Laws.{BatchEnd, end_of, batch, number_done, Takes, after_by, after_one, one_by_one, OneByOne, raised, Joined, FirstThenRest, Numbers, units_among, where_done, in_turn, UnitsInTurn}
@@ -37,8 +36,8 @@ module _ (g : Geometry) (b : ℕ) (payload : List ℕ) where
     where
       go : (a : Answer ℕ) (left : Fuse) (after : List ℕ) → run f (write_record g b payload r) img ≡ record { answer = a; fuse = left; state = after }
           → run f (writing g b payload i (r ∷ rs)) (both img (i ∷ [])) ≡ after_by i a left after (λ f₁ img₁. run f₁ (writing g b payload (i + 1) rs) (both img₁ ((i + 1) ∷ [])))
-      go (done n) left after h = record-on g b payload i r rs f img after (wrote.Done n left) (sym h) refl
-      go (refused n) left after h = record-stop g b payload i r rs f img after (wrote.Refused n left) (sym h) refl
+      go (done n) left after h = record-on g b payload i r rs f img after left h
+      go (refused n) left after h = record-stop g b payload i r rs f img after left h
 
   turns : (f : Fuse) (i : ℕ) (rs : List Record) (img : List ℕ) → run f (writing g b payload i rs) (both img (i ∷ [])) ≡ one_by_one f g b payload i rs img
   turns f i [] img = records_end g b payload i f (both img (i ∷ []))
@@ -49,7 +48,7 @@ module _ (g : Geometry) (b : ℕ) (payload : List ℕ) where
 
 pub one_by_one_lem : OneByOne
 unfolding OneByOne
-one_by_one_lem f g b records payload img h = all-on g b payload records f img (0 ∷ []) 0 (sym h) refl ∙ turns g b payload f 0 (records_in records) img
+one_by_one_lem f g b records payload img h = all-on g b payload records f img (0 ∷ []) h ∙ turns g b payload f 0 (records_in records) img
 
 -- ---- lists of numbers that are joined
 

@@ -1,8 +1,7 @@
 -- One record at its turn: its range, its type, and then `write_to`.
 use mathlib.Core.Path.{◌≡◌, ◌∙◌}
 use mathlib.Core.List.{List}
-use Prim.Native.Nat.{ℕ, ◌+◌, ◌-◌, ◌≤◌, ◌<◌}
-use native.Mathlib.Omega.{arith}
+use Prim.Native.Nat.{ℕ, ◌+◌, ◌≤◌, ◌<◌}
 use lib.ListN.{length}
 use borrow.Author.Tests.{lt-leb, le-leb}
 use Rattle.medium.specs.declared.geometry.Geometry.{Geometry}
@@ -34,16 +33,9 @@ module _ (g : Geometry) (b : ℕ) (payload : List ℕ) (r : Record) (f : Fuse) (
     abbrev src : List ℕ
     src = part r.start r.length payload
 
-    in_range : run f (write_record g b payload r) img ≡ run f (ask (λ _. object_type_of r.kind) >>= λ t. write_to g (place_of b r) t src) img
+    pub in_range : run f (write_record g b payload r) img ≡ run f (ask (λ _. object_type_of r.kind) >>= λ t. write_to g (place_of b r) t src) img
     unfolding write_record
     in_range = ask_on f (λ _. lent_to r payload) _ img (lent_is r payload h)
 
-    pub type-stop : {k : ℕ} → object_type_of r.kind ≡ refused k → run f (write_record g b payload r) img ≡ record { answer = refused k; fuse = f; state = img }
-    type-stop e = in_range ∙ ask_stop f (λ _. object_type_of r.kind) (λ t. write_to g (place_of b r) t src) img e
-
     pub written-by : {t : ObjectType} → object_type_of r.kind ≡ done t → run f (write_record g b payload r) img ≡ run f (write_to g (place_of b r) t src) img
     written-by e = in_range ∙ ask_on f (λ _. object_type_of r.kind) (λ t. write_to g (place_of b r) t src) img e
-
-    -- with the length as the code says it
-    pub typed : {t : ObjectType} → object_type_of r.kind ≡ done t → run f (write_record g b payload r) img ≡ run f (write_to g (place_of b r) t (part r.start (r.start + r.length - r.start) payload)) img
-    typed e = let n : r.start + r.length - r.start ≡ r.length = omega arith in rw n (written-by e)

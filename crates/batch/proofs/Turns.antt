@@ -9,17 +9,16 @@ use mathlib.Core.Bool.{Bool, true, false, ◌&&◌, false≢true}
 use borrow.Author.Tests.{lt-leb, le-leb, ne_eqb, eq-eqb, leb-true, eqb-true}
 use Rattle.medium.specs.declared.geometry.Geometry.{Geometry}
 use Rattle.medium.specs.declared.fuse.Fuse.{Fuse}
-use Rattle.medium.specs.declared.fuse.Stored.TheVariants as stored
+use Rattle.std.specs.Prelude.{Result, Ok, Err}
+use Rattle.medium.specs.declared.fuse.Stopped.{Stopped}
+use Rattle.medium.specs.Refusal.{refusal_number}
 use Rattle.medium.specs.Granularity.{pick}
 use Rattle.medium.specs.Geometry.{check_of}
-use Rattle.medium.specs.Operation.{done, refused, run, ◌>>=◌}
-use Rattle.medium.specs.Beside.{Both, both, beside}
-use Rattle.medium.proofs.Runs.{run_bind, run_ask_in, test_on, test_stop}
+use Rattle.medium.specs.Operation.{done, refused, run, next, ended_with, ◌>>=◌}
+use Rattle.medium.specs.Beside.{Both, both, beside, on_image}
+use Rattle.medium.proofs.Runs.{run_bind, run_ask_in, test_on}
 use Rattle.medium.proofs.Checks.{picked, admitted, admit_pass, admit_stop, passed}
-use Rattle.medium.proofs.Beside.{run_fields, image_on, image_stop}
-use Rattle.writer.specs.declared.writer.Wrote.{Wrote}
-use Rattle.writer.specs.declared.writer.Wrote.TheVariants as wrote
-use Rattle.writer.specs.Writer.{wrote_end}
+use Rattle.medium.proofs.Beside.{run_fields, run_image, with_table}
 use Rattle.batch.specs.declared.record.Record.{Record}
 use Rattle.batch.specs.Batch.{most_records, per_record, batch_record_at, records_in, batchable, write_record, Batch, count_to, writing, write_all}
 
@@ -89,45 +88,45 @@ module _ (g : Geometry) (b : ℕ) (payload : List ℕ) where
   count_on : {B : Type 0} (f : Fuse) (i j : ℕ) (k : Unit {0} → Batch B) (img : List ℕ) → run f (count_to j >>= k) (both img (i ∷ [])) ≡ run f (k tt) (both img (j ∷ []))
   count_on f i j k img = run_bind f (count_to j) k (both img (i ∷ [])) ∙ rw (run_fields f 0 0 (j ∷ []) (tt {0}) img (i ∷ []))
 
-  module _ (i : ℕ) (r : Record) (rs : List Record) (f : Fuse) (img after : List ℕ) (a : Wrote) (e : wrote_end a after ≡ run f (write_record g b payload r) img) where
-    -- written: it counts, and the next has its turn
-    pub record-on : {n : ℕ} {left : Fuse} → a ≡ wrote.Done n left → run f (writing g b payload i (r ∷ rs)) (both img (i ∷ [])) ≡ run left (writing g b payload (i + 1) rs) (both after ((i + 1) ∷ []))
+  module _ (i : ℕ) (r : Record) (rs : List Record) (f : Fuse) (img after : List ℕ) (left : Fuse) where
+    turned : run f (writing g b payload i (r ∷ rs)) (both img (i ∷ []))
+        ≡ next (with_table (i ∷ []) (run f (write_record g b payload r) img)) (λ _ f' s. run f' (count_to (i + 1) >>= λ _. writing g b payload (i + 1) rs) s)
     unfolding writing
-    record-on {n} {left} d =
-        image_on f (write_record g b payload r) (λ _. count_to (i + 1) >>= λ _. writing g b payload (i + 1) rs) img after (i ∷ []) (stored.Done left) n left (rw d at e) refl
-        ∙ count_on left i (i + 1) (λ _. writing g b payload (i + 1) rs) after
+    turned =
+        run_bind f (on_image (write_record g b payload r)) (λ _. count_to (i + 1) >>= λ _. writing g b payload (i + 1) rs) (both img (i ∷ []))
+        ∙ rw (run_image f (write_record g b payload r) img (i ∷ []))
+
+    -- written: it counts, and the next has its turn
+    pub record-on : {n : ℕ} → run f (write_record g b payload r) img ≡ record { answer = done n; fuse = left; state = after }
+        → run f (writing g b payload i (r ∷ rs)) (both img (i ∷ [])) ≡ run left (writing g b payload (i + 1) rs) (both after ((i + 1) ∷ []))
+    record-on e = turned ∙ rw e (count_on left i (i + 1) (λ _. writing g b payload (i + 1) rs) after)
 
     -- refused: the number stays
-    pub record-stop : {n : ℕ} {left : Fuse} → a ≡ wrote.Refused n left → run f (writing g b payload i (r ∷ rs)) (both img (i ∷ [])) ≡ record { answer = refused n; fuse = left; state = both after (i ∷ []) }
-    unfolding writing
-    record-stop {n} {left} d =
-        image_stop f (write_record g b payload r) (λ _. count_to (i + 1) >>= λ _. writing g b payload (i + 1) rs) img after (i ∷ []) (stored.Refused n left) 0 left (rw d at e) refl
+    pub record-stop : {n : ℕ} → run f (write_record g b payload r) img ≡ record { answer = refused n; fuse = left; state = after }
+        → run f (writing g b payload i (r ∷ rs)) (both img (i ∷ [])) ≡ record { answer = refused n; fuse = left; state = both after (i ∷ []) }
+    record-stop e = turned ∙ rw e
 
   pub records_end : (i : ℕ) (f : Fuse) (s : Both) → run f (writing g b payload i []) s ≡ record { answer = done tt; fuse = f; state = s }
   unfolding writing
   records_end i f s = run_ask_in beside f (λ _. done tt) s
 
   -- the turn of record i of a list of numbers
-  module _ (ns : List ℕ) (i : ℕ) (f : Fuse) (img after : List ℕ) (a : Wrote) (e : wrote_end a after ≡ run f (write_record g b payload (batch_record_at ns i)) img) where
-    pub turn_on : {n : ℕ} {left : Fuse} → a ≡ wrote.Done n left → length ns % per_record ≡ 0 → i < length ns / per_record
-        → run f (writing g b payload i (drop i (records_in ns))) (both img (i ∷ [])) ≡ run left (writing g b payload (i + 1) (drop (i + 1) (records_in ns))) (both after ((i + 1) ∷ []))
-    turn_on d w h = rw (record_next i ns (omega arith)) (record-on i (batch_record_at ns i) (drop (i + 1) (records_in ns)) f img after a e d)
+  module _ (ns : List ℕ) (i : ℕ) (f : Fuse) (img after : List ℕ) (a : Result (ℕ × Fuse) Stopped) (e : ended_with a after ≡ run f (write_record g b payload (batch_record_at ns i)) img) where
+    pub turn_on : {x : ℕ × Fuse} → a ≡ Ok x → length ns % per_record ≡ 0 → i < length ns / per_record
+        → run f (writing g b payload i (drop i (records_in ns))) (both img (i ∷ [])) ≡ run x.1 (writing g b payload (i + 1) (drop (i + 1) (records_in ns))) (both after ((i + 1) ∷ []))
+    turn_on {x} d w h = rw (record_next i ns (omega arith)) (record-on i (batch_record_at ns i) (drop (i + 1) (records_in ns)) f img after x.1 (sym (rw d at e)))
 
-    pub turn-stop : {n : ℕ} {left : Fuse} → a ≡ wrote.Refused n left → length ns % per_record ≡ 0 → i < length ns / per_record
-        → run f (writing g b payload i (drop i (records_in ns))) (both img (i ∷ [])) ≡ record { answer = refused n; fuse = left; state = both after (i ∷ []) }
-    turn-stop d w h = rw (record_next i ns (omega arith)) (record-stop i (batch_record_at ns i) (drop (i + 1) (records_in ns)) f img after a e d)
+    pub turn-stop : {s : Stopped} → a ≡ Err s → length ns % per_record ≡ 0 → i < length ns / per_record
+        → run f (writing g b payload i (drop i (records_in ns))) (both img (i ∷ [])) ≡ record { answer = refused (refusal_number s.refusal); fuse = s.fuse; state = both after (i ∷ []) }
+    turn-stop {s} d w h = rw (record_next i ns (omega arith)) (record-stop i (batch_record_at ns i) (drop (i + 1) (records_in ns)) f img after s.fuse (sym (rw d at e)))
 
   -- no record is left
   pub turns_end : (ns : List ℕ) (i : ℕ) (f : Fuse) (s : Both) → length ns % per_record ≡ 0 → length ns / per_record ≤ i → run f (writing g b payload i (drop i (records_in ns))) s ≡ record { answer = done tt; fuse = f; state = s }
   turns_end ns i f s w h = rw (record_last i ns (omega arith)) (records_end i f s)
 
-  -- ---- the whole
+-- ---- the whole, where the test gives 0
 
-  module _ (records : List ℕ) (f : Fuse) (img t : List ℕ) (r : ℕ) (e : r ≡ batchable g (length img) (length records)) where
-    pub all-stop : (r ≡ 0 → ⊥) → run f (write_all g b records payload) (both img t) ≡ record { answer = refused r; fuse = f; state = both img t }
-    unfolding write_all
-    all-stop h = test_stop f (λ (s : Both). batchable g (length s.image) (length records)) _ (both img t) r e h
-
-    pub all-on : r ≡ 0 → run f (write_all g b records payload) (both img t) ≡ run f (writing g b payload 0 (records_in records)) (both img t)
-    unfolding write_all
-    all-on z = test_on f (λ (s : Both). batchable g (length s.image) (length records)) _ (both img t) r e z
+pub all-on : (g : Geometry) (b : ℕ) (payload records : List ℕ) (f : Fuse) (img t : List ℕ) → batchable g (length img) (length records) ≡ 0
+    → run f (write_all g b records payload) (both img t) ≡ run f (writing g b payload 0 (records_in records)) (both img t)
+unfolding write_all
+all-on g b payload records f img t z = test_on f (λ (s : Both). batchable g (length s.image) (length records)) _ (both img t) 0 (sym z) refl

@@ -6,43 +6,41 @@
 pub mod record;
 
 ghost use Rattle.std.specs.Prelude.{◌≡◌, [], ◌∷◌};
-ghost use Rattle.medium.specs.Operation.{run, ended};
+ghost use Rattle.medium.specs.Refusal.{code_of};
+ghost use Rattle.medium.specs.Operation.{run, ended, ended_with};
 ghost use Rattle.medium.specs.Beside.{both};
-ghost use Rattle.writer.specs.Writer.{wrote_end};
 ghost use Rattle.batch.specs.Batch.{batchable, write_record, write_all};
 
 use crate::record::Record;
-use medium::fuse::{Fuse, Stored};
+use medium::fuse::{Ended, Fuse, Stored};
 use medium::geometry::Geometry;
+use medium::refusal::Refusal;
 use objects::location::ObjectLocation;
-use objects::types::{ObjectType, ObjectTypeRead};
-use writer::writer::{ObjectWriter, Wrote};
+use objects::types::ObjectType;
+use writer::writer::ObjectWriter;
 
 // How many records a call takes at most.
 const MOST_RECORDS: usize = 64;
 
-// An answer, and how many records were done before it.
-#[derive(Clone, Copy)]
+// An answer, and how many records were done before it. No Result: the number comes back after a refusal too.
+#[derive(Clone, Copy, Debug, PartialEq, Eq)]
 pub struct Batched {
     pub answer: Stored,
     pub done: u32,
 }
 
 // What is tested before any store: 6, 7 for the image, 7 for more than 64 records or a part of one.
-fn check(g: Geometry, room: usize, n: usize) -> u8
-    ensures { result ≡ batchable g room n }
+fn check(g: Geometry, room: usize, n: usize) -> Result<(), Refusal>
+    ensures { code_of result ≡ batchable g room n }
 {
-    let bad = medium::geometry::check(g, room);
-    if bad != 0 {
-        return bad;
-    }
+    medium::geometry::check(g, room)?;
     if MOST_RECORDS * Record::LENGTH < n {
-        return 7;
+        return Err(Refusal::BadRoom);
     }
     if n % Record::LENGTH != 0 {
-        return 7;
+        return Err(Refusal::BadRoom);
     }
-    0
+    Ok(())
 }
 
 // One record at its turn: 7 for its range, 4 for its type, and then written.
@@ -53,18 +51,15 @@ fn write_record(
     block: u32,
     r: Record,
     payload: &[u8],
-) -> Wrote
-    ensures { wrote_end result image.new ≡ run f (write_record g block payload.now r) image.old }
+) -> Ended<usize>
+    ensures { ended_with result image.new ≡ run f (write_record g block payload.now r) image.old }
 {
     let start = r.start as usize;
     let end = start + (r.length as usize);
     if payload.len() < end {
-        return Wrote::Refused(7, f);
+        return f.beside(Err(Refusal::BadRoom));
     }
-    let of = ObjectType::of_number(r.kind);
-    let ObjectTypeRead::Got(t) = of else {
-        return Wrote::Refused(of.number(), f);
-    };
+    let t = f.beside(ObjectType::try_from(r.kind))?;
     let at = ObjectLocation {
         block: block,
         offset: r.offset,
@@ -83,31 +78,25 @@ pub fn write_all(
 ) -> Batched
     ensures { ended result.answer (both image.new (result.done ∷ [])) ≡ run f (write_all g block records.now payload.now) (both image.old (0 ∷ [])) }
 {
-    let bad = check(g, image.len(), records.len());
-    if bad != 0 {
+    if let Err(stopped) = f.beside(check(g, image.len(), records.len())) {
         return Batched {
-            answer: Stored::Refused(bad, f),
+            answer: Err(stopped),
             done: 0,
         };
     }
     let n = (records.len() / Record::LENGTH) as u32;
     let mut fuse = f;
-    let mut i = 0;
-    while i < n {
-        let a = write_record(g, image, fuse, block, Record::at(records, i), payload);
-        match a {
-            Wrote::Refused(k, left) => return Batched {
-                answer: Stored::Refused(k, left),
+    for i in 0..n {
+        match write_record(g, image, fuse, block, Record::at(records, i), payload) {
+            Ok((_, left)) => fuse = left,
+            Err(stopped) => return Batched {
+                answer: Err(stopped),
                 done: i,
             },
-            Wrote::Done(_, left) => {
-                fuse = left;
-                i += 1;
-            }
         }
     }
     Batched {
-        answer: Stored::Done(fuse),
-        done: i,
+        answer: Ok(fuse),
+        done: n,
     }
 }

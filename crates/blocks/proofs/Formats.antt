@@ -14,10 +14,15 @@ use Rattle.medium.specs.declared.fuse.Fuse.{Fuse}
 use Rattle.medium.specs.Granularity.{pick, longest_block_header, width_of, align_of, block_header}
 use Rattle.medium.specs.Geometry.{geometry_ok, admit, check_of}
 use Rattle.medium.specs.Units.{under, blank}
+use Rattle.std.specs.Prelude.{Result, Ok, Err}
+use Rattle.medium.specs.declared.refusal.Refusal.{Refusal}
+use Rattle.medium.specs.Refusal.{refusal_number, answer_of}
+use Rattle.blocks.specs.declared.format.Plan.{Plan}
+use Rattle.blocks.specs.declared.format.Plan.TheVariants as plan
 use Rattle.medium.specs.Operation.{Answer, done, refused, and_then, run, ask, ◌>>=◌}
 use Rattle.medium.specs.Strict.{all_ff}
 use Rattle.medium.specs.Medium.{readable, writable, erasable, read_at, lent}
-use Rattle.medium.proofs.Runs.{run_ask, ask_on, ask_stop, test_on, test_stop}
+use Rattle.medium.proofs.Runs.{run_ask, ask_on, ask_stop}
 use Rattle.medium.proofs.Bytes.{length_erased}
 use Rattle.medium.proofs.Checks.{Fine, sound_is, admitted, passed, admit_pass, picked}
 use Rattle.medium.proofs.Ranges.{read_lent, read_refused}
@@ -27,7 +32,7 @@ use Rattle.medium.proofs.Writes.{write_passed, erase_passed}
 use Rattle.blocks.specs.declared.header.BlockType.TheVariants.{Undefined}
 use Rattle.blocks.specs.declared.header.BlockHeaderKind.TheVariants.{Known}
 use Rattle.blocks.specs.BlockHeader.{wide_bytes, header_bytes, write_header, header_in, block_header_at}
-use Rattle.blocks.specs.Format.{data_length, data_empty_at, Planned, keep, label, renew, plan_of, plan_at, undefined, labelling, renewing, carry_out, format_block, format_from, format_storage}
+use Rattle.blocks.specs.Format.{data_length, data_empty_at, Planned, keep, label, renew, plan_of, plan_at, plan_answer, undefined, labelling, renewing, carry_out, format_block, format_from}
 use Rattle.blocks.proofs.Headers.{readable_of}
 
 -- ---- a block that can be reached can be read, every range of it
@@ -69,6 +74,21 @@ module _ (g : Geometry) (b : ℕ) (img : List ℕ) (h n r : ℕ) (eh : h ≡ blo
   unfolding data_empty_at
   data_lent bs t q w z = rw (← en, ← eh, read_lent g b h n img r e bs q z, w)
 
+-- a plan that is refused
+pub plan_refused : (p : Result Plan Refusal) (k : ℕ) → ◌≡◌ {A = Answer Plan} (refused k) (answer_of p) → ◌≡◌ {A = Answer Planned} (refused k) (plan_answer p)
+plan_refused (Ok p) k h = let z : ◌≡◌ {A = ℕ} 0 1 = cc in absurd (omega arith)
+plan_refused (Err e) k h = let q : k ≡ refusal_number e = cc in ap refused q
+
+-- and one that is made
+pub record Plans (a : Answer Planned) : Type 0 where
+  pub what : Planned
+  pub is : a ≡ done what
+
+pub plan_made : (r : Result Plan Refusal) (p : Plan) → r ≡ Ok p → Plans (plan_answer r)
+plan_made r plan.Keep e = record { what = keep; is = ap plan_answer e }
+plan_made r plan.Label e = record { what = label; is = ap plan_answer e }
+plan_made r (plan.Renew n) e = record { what = renew n; is = ap plan_answer e }
+
 -- ---- the plan is carried out
 
 module _ (f : Fuse) (g : Geometry) (b : ℕ) (img : List ℕ) where
@@ -89,15 +109,6 @@ format_step n b g f img h = let e : n - b ≡ suc (n - (b + 1)) = omega arith in
 pub format_end : (n b : ℕ) (g : Geometry) (f : Fuse) (img : List ℕ) → n ≤ b → run f (format_from (n - b) g b) img ≡ record { answer = done tt; fuse = f; state = img }
 unfolding format_from
 format_end n b g f img h = let e : n - b ≡ 0 = omega arith in rw e (run_ask f (λ _. done tt) img)
-
-module _ (g : Geometry) (f : Fuse) (img : List ℕ) (r : ℕ) (e : r ≡ check_of g (length img)) where
-  pub storage_stop : (r ≡ 0 → ⊥) → run f (format_storage g) img ≡ record { answer = refused r; fuse = f; state = img }
-  unfolding format_storage
-  storage_stop h = test_stop f (λ i. check_of g (length i)) _ img r e h
-
-  pub storage_on : r ≡ 0 → run f (format_storage g) img ≡ run f (format_from (g.count - 0) g 0) img
-  unfolding format_storage
-  storage_on z = let m : g.count - 0 ≡ g.count = omega arith in rw m (test_on f (λ i. check_of g (length i)) _ img r e z)
 
 -- ---- with power a format is refused by its plan alone
 

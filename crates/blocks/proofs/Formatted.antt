@@ -48,7 +48,7 @@ use Rattle.blocks.specs.Scan.{scan_block}
 use Rattle.blocks.specs.Formatted.{HeaderReadsBack, count_by, planned_count, fresh_record, FormattedScans}
 use Rattle.blocks.proofs.Headers.{bit_small, readable_of, check_of_header}
 use Rattle.blocks.proofs.Formats.{reach_fine, reach_checked, reach_below, length_header, label_writes, planned, format_on, format_stop}
-use Rattle.blocks.proofs.Scans.{scan_by_lem, scan-free}
+use Rattle.blocks.proofs.Scans.{scan_by_lem, scan_stopped}
 use Rattle.blocks.proofs.ReadBack.{header_back, header_ff}
 
 -- ---- an Undefined block with nothing behind its header
@@ -124,7 +124,7 @@ module _ (g : Geometry) (b : ℕ) (img : List ℕ) (n : ℕ) (hd : block_header_
   unfolding listing
   fresh_scans =
       scan_by_lem g b (undefined n) img (Known Undefined) hd refl
-      ∙ scan-free g img (check_of_header g b img (undefined n) hd) (start_of g b) (undefined n) false (sym next_free)
+      ∙ scan_stopped g img (check_of_header g b img (undefined n) hd) (start_of g b) (undefined n) false free_place tt (sym next_free)
 
 -- ---- a header over an erased block
 

@@ -11,10 +11,9 @@ use Rattle.medium.specs.declared.granularity.Granularity.{Granularity}
 use Rattle.medium.specs.declared.granularity.Granularity.TheVariants.{Bit, Word1, Word4}
 use Rattle.medium.specs.declared.geometry.Geometry.{Geometry}
 use Rattle.medium.specs.declared.fuse.Fuse.{Fuse}
-use Rattle.medium.specs.declared.fuse.Stored.TheVariants.{Refused}
 use Rattle.medium.specs.Granularity.{pick, longest_block_header, type_at, layout_bit}
 use Rattle.medium.specs.Geometry.{check_of, address}
-use Rattle.medium.specs.Operation.{Answer, done, refused, and_then, run, ended}
+use Rattle.medium.specs.Operation.{Answer, done, refused, and_then, run}
 use Rattle.medium.specs.Medium.{part, readable, writable, storable, read_at, write}
 use Rattle.medium.proofs.Checks.{admit_stop, passed}
 use Rattle.medium.proofs.Stores.{write_refused}
@@ -38,7 +37,7 @@ unfolding storable
 out_of_range g b o bs img r e n = rw (← e, ne_eqb r 0 n)
 
 -- and that as the check of geometry and room is
-pub write_unsound : (g : Geometry) (f : Fuse) (b o : ℕ) (bs img : List ℕ) (r : ℕ) → r ≡ check_of g (length img) → (r ≡ 0 → ⊥) → ended (Refused r f) img ≡ run f (write g b o bs) img
+pub write_unsound : (g : Geometry) (f : Fuse) (b o : ℕ) (bs img : List ℕ) (r : ℕ) → r ≡ check_of g (length img) → (r ≡ 0 → ⊥) → record { answer = refused r; fuse = f; state = img } ≡ run f (write g b o bs) img
 unfolding writable
 write_unsound g f b o bs img r e n = write_refused g img f b o bs r (out_of_range g b o bs img r (admit_stop g (length img) _ r e n) n) n
 

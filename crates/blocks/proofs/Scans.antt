@@ -1,13 +1,16 @@
 -- A scan: the last written byte, and what each step of a listing leaves to be listed.
 use mathlib.Core.Path.{◌≡◌, refl, ap, ◌∙◌}
 use Prim.Native.Nat.{ℕ, zero, suc, ◌+◌, ◌-◌, ◌≤◌, ◌<◌}
-use native.Mathlib.Nat.{le_of_suc-le-suc, not-suc-le-zero, add_assoc}
+use native.Mathlib.Nat.{add_assoc}
 use native.Mathlib.Omega.{arith}
 use mathlib.Core.Bool.{Bool, true, false, not}
 use mathlib.Core.List.{List, [], ◌∷◌}
-use lib.ListN.{length, get_or, take}
+use lib.ListN.{length, get_or}
 use lib.Dec.{leb, eqb}
 use borrow.Author.Tests.{eq-eqb, ne_eqb}
+use Rattle.std.specs.Prelude.{Result, Ok, Err}
+use Rattle.medium.specs.declared.refusal.Refusal.{Refusal}
+use Rattle.medium.specs.Refusal.{refusal_number, answer_of}
 use Rattle.medium.specs.declared.granularity.Granularity.{Granularity}
 use Rattle.medium.specs.declared.geometry.Geometry.{Geometry}
 use Rattle.medium.specs.Granularity.{pick, width_of}
@@ -20,8 +23,10 @@ use Rattle.medium.proofs.Checks.{fine_of_check}
 use Rattle.medium.proofs.Ranges.{read_lent, read_refused}
 use Rattle.objects.specs.declared.header.ObjectHeader.{ObjectHeader}
 use Rattle.objects.specs.declared.iterator.ObjectIterator.{ObjectIterator}
+use Rattle.objects.specs.declared.iterator.Next.{Next}
+use Rattle.objects.specs.declared.iterator.Next.TheVariants as next
 use Rattle.objects.specs.Info.{total_of, span_of}
-use Rattle.objects.specs.Listing.{Met, object, free_place, block_end, next_of, Listing, list_by, list_from}
+use Rattle.objects.specs.Listing.{Met, object, free_place, block_end, next_answer, next_of, Listing, list_by, list_from}
 use Rattle.objects.proofs.Answers.{or_on, then_on}
 use Rattle.objects.proofs.Reading.{read_length}
 use Rattle.objects.proofs.Listing.{unroll}
@@ -32,26 +37,17 @@ use Rattle.blocks.specs.BlockHeader.{block_header_at}
 
 -- ---- the last written byte
 
--- a byte FF at the end changes nothing
-pub written_blank : (n : ℕ) (l : List ℕ) → n < length l → get_or l n 0 ≡ 255 → written_in (take (suc n) l) ≡ written_in (take n l)
-written_blank n [] h e = absurd (not-suc-le-zero h)
-written_blank zero (b ∷ l) h e = rw (eq-eqb b 255 e)
-written_blank (suc n) (b ∷ l) h e = ap (λ (m : ℕ). behind_written b m) (written_blank n l (le_of_suc-le-suc h) e)
+pub written_none : (l : List ℕ) → ((k : ℕ) → k < length l → get_or l k 0 ≡ 255) → written_in l ≡ 0
+written_none [] h = refl
+written_none (b ∷ l) h = ap (λ (m : ℕ). behind_written b m) (written_none l (λ k q. h (suc k) (omega arith))) ∙ rw (eq-eqb b 255 (h 0 (omega arith)))
 
--- and a byte that is not FF is the last written one
-pub written_last : (n : ℕ) (l : List ℕ) → n < length l → (get_or l n 0 ≡ 255 → ⊥) → written_in (take (suc n) l) ≡ suc n
-written_last n [] h e = absurd (not-suc-le-zero h)
-written_last zero (b ∷ l) h e = rw (ne_eqb b 255 e)
-written_last (suc n) (b ∷ l) h e = ap (λ (m : ℕ). behind_written b m) (written_last n l (le_of_suc-le-suc h) e)
-
--- the same as a loop from the end has it
-pub written_less : (n : ℕ) (l : List ℕ) → 0 < n → n ≤ length l → get_or l (n - 1) 0 ≡ 255 → written_in (take n l) ≡ written_in (take (n - 1) l)
-written_less zero l p h e = absurd (omega arith)
-written_less (suc n) l p h e = let m : suc n - 1 ≡ n = omega arith in rw m (written_blank n l h (rw m at e))
-
-pub written_here : (n : ℕ) (l : List ℕ) → 0 < n → n ≤ length l → (get_or l (n - 1) 0 ≡ 255 → ⊥) → written_in (take n l) ≡ n
-written_here zero l p h e = absurd (omega arith)
-written_here (suc n) l p h e = let m : suc n - 1 ≡ n = omega arith in written_last n l h (rw m at e)
+pub written_at : (l : List ℕ) (i : ℕ) → i < length l → (get_or l i 0 ≡ 255 → ⊥) → ((k : ℕ) → i + 1 ≤ k → k < length l → get_or l k 0 ≡ 255) → written_in l ≡ i + 1
+written_at [] i h e f = absurd (omega arith)
+written_at (b ∷ l) zero h e f = ap (λ (m : ℕ). behind_written b m) (written_none l (λ k q. f (suc k) (omega arith) (omega arith))) ∙ rw (ne_eqb b 255 e)
+written_at (b ∷ l) (suc i) h e f =
+    let m : i + 1 ≡ suc i = omega arith in
+    let n : suc i + 1 ≡ suc (suc i) = omega arith in
+    ap (λ (m : ℕ). behind_written b m) (written_at l i (omega arith) e (λ k p q. f (suc k) (omega arith) (omega arith))) ∙ rw (m, n)
 
 -- the place is within the bytes
 pub written_most : (l : List ℕ) → written_in l ≤ length l
@@ -80,6 +76,28 @@ module _ (g : Geometry) (b : ℕ) (h : BlockHeader) (img : List ℕ) (r : ℕ) (
     pub unknown-within : m ≤ g.size
     unknown-within = omega (arith, w, written_most bs, read_length g b 0 g.size img bs (read_lent g b 0 g.size img r e bs q z))
 
+-- ---- where a listing stops: no object stands there
+
+abbrev pub Stops : Met → Type 0
+Stops (object o j) = ⊥
+Stops free_place = Unit {0}
+Stops block_end = Unit {0}
+
+pub record Halt (n : Next) : Type 0 where
+  pub what : Met
+  pub is : next_answer (Ok n) ≡ done what
+  pub stops : Stops what
+
+pub no_object : (n : Next) → ((o : ObjectHeader) (j : ObjectIterator) → n ≡ next.Object o j → ⊥) → Halt n
+no_object (next.Object o j) h = absurd (h o j refl)
+no_object next.Free h = record { what = free_place; is = refl; stops = tt }
+no_object next.End h = record { what = block_end; is = refl; stops = tt }
+
+-- a refusal of it
+pub next_refused : (r : Result Next Refusal) (k : ℕ) → ◌≡◌ {A = Answer Next} (refused k) (answer_of r) → ◌≡◌ {A = Answer Met} (refused k) (next_answer r)
+next_refused (Ok n) k h = let z : ◌≡◌ {A = ℕ} 0 1 = cc in absurd (omega arith)
+next_refused (Err e) k h = let q : k ≡ refusal_number e = cc in ap refused q
+
 -- ---- listing, step by step
 
 module _ (g : Geometry) (img : List ℕ) (c : check_of g (length img) ≡ 0) (i : ObjectIterator) where
@@ -96,11 +114,10 @@ module _ (g : Geometry) (img : List ℕ) (c : check_of g (length img) ≡ 0) (i 
     pub scan-more : (o : ObjectHeader) (j : ObjectIterator) → done (object o j) ≡ next_of g i img → listed h a (list_from g.size g i img) ≡ listed h (is_allocated o) (list_from g.size g j img)
     scan-more o j e = scan-by-step (done (object o j)) e
 
-    pub scan-free : done free_place ≡ next_of g i img → listed h a (list_from g.size g i img) ≡ done (record_of h i.location.offset (not a))
-    scan-free e = scan-by-step (done free_place) e
-
-    pub scan-end : done block_end ≡ next_of g i img → listed h a (list_from g.size g i img) ≡ done (record_of h i.location.offset (not a))
-    scan-end e = scan-by-step (done block_end) e
+    pub scan_stopped : (x : Met) → Stops x → done x ≡ next_of g i img → listed h a (list_from g.size g i img) ≡ done (record_of h i.location.offset (not a))
+    scan_stopped (object o j) n e = absurd n
+    scan_stopped free_place n e = scan-by-step (done free_place) e
+    scan_stopped block_end n e = scan-by-step (done block_end) e
 
     pub scan-broken : (k : ℕ) → refused k ≡ next_of g i img → listed h a (list_from g.size g i img) ≡ refused k
     scan-broken k e = scan-by-step (refused k) e
@@ -116,11 +133,10 @@ module _ (g : Geometry) (img : List ℕ) (c : check_of g (length img) ≡ 0) (i 
         → freeable g m (list_from g.size g i img) ≡ freeable g (m + pick (is_freeable o) (total_of g.granularity g.s o) 0) (list_from g.size g j img)
     sum_more o j e = sum-by-step (done (object o j)) e ∙ more_by o (list_from g.size g j img) j
 
-    pub sum-free : done free_place ≡ next_of g i img → freeable g m (list_from g.size g i img) ≡ pick (leb i.location.offset g.size) (done (g.size - i.location.offset + m)) (refused 9)
-    sum-free e = let z : m + 0 ≡ m = omega arith in sum-by-step (done free_place) e ∙ rw z
-
-    pub sum-end : done block_end ≡ next_of g i img → freeable g m (list_from g.size g i img) ≡ pick (leb i.location.offset g.size) (done (g.size - i.location.offset + m)) (refused 9)
-    sum-end e = let z : m + 0 ≡ m = omega arith in sum-by-step (done block_end) e ∙ rw z
+    pub sum_stopped : (x : Met) → Stops x → done x ≡ next_of g i img → freeable g m (list_from g.size g i img) ≡ pick (leb i.location.offset g.size) (done (g.size - i.location.offset + m)) (refused 9)
+    sum_stopped (object o j) n e = absurd n
+    sum_stopped free_place n e = let z : m + 0 ≡ m = omega arith in sum-by-step (done free_place) e ∙ rw z
+    sum_stopped block_end n e = let z : m + 0 ≡ m = omega arith in sum-by-step (done block_end) e ∙ rw z
 
     pub sum-broken : (k : ℕ) → refused k ≡ next_of g i img → freeable g m (list_from g.size g i img) ≡ refused k
     sum-broken k e = sum-by-step (refused k) e

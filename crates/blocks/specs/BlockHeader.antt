@@ -5,7 +5,7 @@ use Rattle.std.specs.Prelude.{ℕ, zero, suc, ◌+◌, ◌-◌, ◌*◌, List, [
 use Rattle.medium.specs.declared.granularity.Granularity.{Granularity}
 use Rattle.medium.specs.declared.geometry.Geometry.{Geometry}
 use Rattle.medium.specs.Granularity.{pick, longest_block_header, block_header, type_at, layout_bit}
-use Rattle.medium.specs.Operation.{Answer, done, refused, and_then, Op}
+use Rattle.medium.specs.Operation.{Answer, done, and_then, Op}
 use Rattle.medium.specs.Medium.{read_at, write}
 use Rattle.objects.specs.Numbers.{number, bytes}
 use Rattle.blocks.specs.declared.header.BlockType.{BlockType}
@@ -13,8 +13,6 @@ use Rattle.blocks.specs.declared.header.BlockType.TheVariants.{Metadata, Data, U
 use Rattle.blocks.specs.declared.header.BlockHeaderKind.{BlockHeaderKind}
 use Rattle.blocks.specs.declared.header.BlockHeaderKind.TheVariants.{Empty, Unknown, Known}
 use Rattle.blocks.specs.declared.header.BlockHeader.{BlockHeader}
-use Rattle.blocks.specs.declared.header.BlockHeaderRead.{BlockHeaderRead}
-use Rattle.blocks.specs.declared.header.BlockHeaderRead.TheVariants as read
 
 -- ---- types and kinds
 
@@ -119,14 +117,6 @@ abbrev pub header_in : Geometry → List ℕ → BlockHeader
 header_in g bs = record { kind = kind_in g bs; erase_count = erase_count_in bs }
 
 -- ---- reading
-
-abbrev pub header_answer : BlockHeaderRead → Answer BlockHeader
-header_answer (read.Got h) = done h
-header_answer (read.Refused n) = refused n
-
-abbrev pub header_number : BlockHeaderRead → ℕ
-header_number (read.Got h) = 0
-header_number (read.Refused n) = n
 
 -- as many bytes are read as the longest header has
 unfoldable pub block_header_at : Geometry → ℕ → List ℕ → Answer BlockHeader

@@ -1,6 +1,8 @@
 -- Formatting: a block that is erased and has no header gets one; an Undefined block with nothing in it stays; any other is erased and gets a
 -- new header, with one erase more where the old count is known. "Format of a Data block, erase count 4,294,967,295: 2, nothing stored".
-use Rattle.std.specs.Prelude.{ℕ, zero, suc, ◌+◌, ◌-◌, List, [], ◌∷◌, Bool, true, false, length, eqb}
+use Rattle.std.specs.Prelude.{ℕ, zero, suc, ◌+◌, ◌-◌, List, [], ◌∷◌, Bool, true, false, Result, Ok, Err, length, eqb}
+use Rattle.medium.specs.declared.refusal.Refusal.{Refusal}
+use Rattle.medium.specs.Refusal.{refusal_number}
 use Rattle.medium.specs.declared.geometry.Geometry.{Geometry}
 use Rattle.medium.specs.Granularity.{pick, block_header, type_at}
 use Rattle.medium.specs.Geometry.{check_of}
@@ -12,8 +14,6 @@ use Rattle.blocks.specs.declared.header.BlockType.TheVariants.{Metadata, Data, U
 use Rattle.blocks.specs.declared.header.BlockHeaderKind.{BlockHeaderKind}
 use Rattle.blocks.specs.declared.header.BlockHeaderKind.TheVariants.{Empty, Unknown, Known}
 use Rattle.blocks.specs.declared.header.BlockHeader.{BlockHeader}
-use Rattle.blocks.specs.declared.format.Emptiness.{Emptiness}
-use Rattle.blocks.specs.declared.format.Emptiness.TheVariants as emptiness
 use Rattle.blocks.specs.declared.format.Plan.{Plan}
 use Rattle.blocks.specs.declared.format.Plan.TheVariants as plan
 use Rattle.blocks.specs.BlockHeader.{type_byte, write_header, block_header_at}
@@ -27,16 +27,6 @@ data_length g = g.size - block_header g.granularity
 unfoldable pub data_empty_at : Geometry → ℕ → List ℕ → Answer Bool
 data_empty_at g b img = and_then (read_at g b (block_header g.granularity) (data_length g) img) (λ bs. done (all_ff bs))
 
-abbrev pub emptiness_answer : Emptiness → Answer Bool
-emptiness_answer emptiness.Empty = done true
-emptiness_answer emptiness.Written = done false
-emptiness_answer (emptiness.Refused n) = refused n
-
-abbrev pub emptiness_number : Emptiness → ℕ
-emptiness_number emptiness.Empty = 0
-emptiness_number emptiness.Written = 0
-emptiness_number (emptiness.Refused n) = n
-
 -- ---- what a format will store: nothing, a header, or an erase and then a header
 
 pub data Planned : Type 0 where
@@ -44,17 +34,11 @@ pub data Planned : Type 0 where
   label : Planned
   renew : ℕ → Planned
 
-abbrev pub plan_answer : Plan → Answer Planned
-plan_answer plan.Keep = done keep
-plan_answer plan.Label = done label
-plan_answer (plan.Renew n) = done (renew n)
-plan_answer (plan.Refused k) = refused k
-
-abbrev pub plan_number : Plan → ℕ
-plan_number plan.Keep = 0
-plan_number plan.Label = 0
-plan_number (plan.Renew n) = 0
-plan_number (plan.Refused k) = k
+abbrev pub plan_answer : Result Plan Refusal → Answer Planned
+plan_answer (Ok plan.Keep) = done keep
+plan_answer (Ok plan.Label) = done label
+plan_answer (Ok (plan.Renew n)) = done (renew n)
+plan_answer (Err e) = refused (refusal_number e)
 
 unfoldable pub again : ℕ → Answer Planned
 again n = pick (eqb n 4294967295) (refused 2) (done (renew (n + 1)))

@@ -9,20 +9,8 @@ use Rattle.medium.specs.Operation.{Answer, done, refused, and_then, or_refuse}
 use Rattle.blocks.specs.declared.header.BlockType.TheVariants.{Metadata, Data, Undefined}
 use Rattle.blocks.specs.declared.header.BlockHeaderKind.{BlockHeaderKind}
 use Rattle.blocks.specs.declared.header.BlockHeaderKind.TheVariants.{Empty, Unknown, Known}
-use Rattle.blocks.specs.declared.header.KindRead.{KindRead}
-use Rattle.blocks.specs.declared.header.KindRead.TheVariants as kinds
 use Rattle.blocks.specs.declared.record.BlockInfo.{BlockInfo}
-use Rattle.blocks.specs.declared.record.BlockInfoRead.{BlockInfoRead}
-use Rattle.blocks.specs.declared.record.BlockInfoRead.TheVariants as read
 use Rattle.blocks.specs.BlockHeader.{kind_number}
-
-abbrev pub info_answer : BlockInfoRead → Answer BlockInfo
-info_answer (read.Got r) = done r
-info_answer (read.Refused n) = refused n
-
-abbrev pub info_number : BlockInfoRead → ℕ
-info_number (read.Got r) = 0
-info_number (read.Refused n) = n
 
 abbrev pub new_unknown : BlockInfo
 new_unknown = record { header = record { kind = Unknown; erase_count = 0 }; used_bytes = 0; allow_alloc = false }
@@ -36,14 +24,6 @@ kind_of n =
     (pick (eqb n 2) (done (Known Metadata))
     (pick (eqb n 3) (done (Known Data))
     (pick (eqb n 4) (done (Known Undefined)) (refused 4)))))
-
-abbrev pub kind_answer : KindRead → Answer BlockHeaderKind
-kind_answer (kinds.Got k) = done k
-kind_answer (kinds.Refused n) = refused n
-
-abbrev pub kind_read_number : KindRead → ℕ
-kind_read_number (kinds.Got k) = 0
-kind_read_number (kinds.Refused n) = n
 
 abbrev pub allow_of : ℕ → Answer Bool
 allow_of n = pick (eqb n 0) (done false) (pick (eqb n 1) (done true) (refused 4))

@@ -1,15 +1,16 @@
 // The header of a block: what kind of block it is, and how often it was erased.
 ghost use Rattle.std.specs.Prelude.{◌≡◌, ◌≤◌, length};
+ghost use Rattle.medium.specs.Refusal.{answer_of};
 ghost use Rattle.medium.specs.Operation.{run, ended};
-ghost use Rattle.medium.specs.Granularity.{longest_block_header};
-ghost use Rattle.blocks.specs.BlockHeader.{type_byte, type_number, kind_number, is_empty_kind, is_known, is_unknown, is_empty, layout_byte, type_if, wide_bytes, write_header, named, padded, marked, blank, kind_of_type, named_kind, kind_in, erase_count_in, header_answer, header_number, block_header_at};
-ghost use Rattle.blocks.specs.Record.{kind_of, kind_answer, kind_read_number};
+ghost use Rattle.blocks.specs.BlockHeader.{type_byte, type_number, kind_number, is_empty_kind, is_known, is_unknown, is_empty, layout_byte, type_if, wide_bytes, write_header, named, padded, marked, blank, kind_of_type, named_kind, kind_in, erase_count_in, block_header_at};
+ghost use Rattle.blocks.specs.Record.{kind_of};
 
-use medium::fuse::{Answered, Fuse, Stored};
+use medium::fuse::{Fuse, Stored};
 use medium::geometry::Geometry;
 use medium::granularity::Granularity;
+use medium::refusal::Refusal;
 
-#[derive(Clone, Copy)]
+#[derive(Clone, Copy, Debug, PartialEq, Eq)]
 pub enum BlockType {
     Metadata,
     Data,
@@ -24,16 +25,6 @@ impl BlockType {
 
     pub const UNDEFINED: u8 = 0xFF;
 
-    pub fn byte(self) -> u8
-        ensures { result ≡ type_byte self }
-    {
-        match self {
-            BlockType::Metadata => Self::METADATA,
-            BlockType::Data => Self::DATA,
-            BlockType::Undefined => Self::UNDEFINED,
-        }
-    }
-
     // The number of a Known kind of this type.
     fn number(self) -> u32
         ensures { result ≡ type_number self }
@@ -46,86 +37,45 @@ impl BlockType {
     }
 }
 
-#[derive(Clone, Copy)]
+impl From<BlockType> for u8 {
+    ghost from_gives = { λ t b. b ≡ type_byte t };
+
+    fn from(t: BlockType) -> u8 {
+        match t {
+            BlockType::Metadata => BlockType::METADATA,
+            BlockType::Data => BlockType::DATA,
+            BlockType::Undefined => BlockType::UNDEFINED,
+        }
+    }
+}
+
+#[derive(Clone, Copy, Debug, PartialEq, Eq)]
 pub enum BlockHeaderKind {
     Empty,
     Unknown,
     Known(BlockType),
 }
 
-// What a kind's number says.
-#[derive(Clone, Copy)]
-pub enum KindRead {
-    Got(BlockHeaderKind),
-    Refused(u8),
-}
-
-impl KindRead {
-    pub fn number(self) -> u8
-        ensures { result ≡ kind_read_number self }
-    {
-        match self {
-            KindRead::Got(_) => 0,
-            KindRead::Refused(k) => k,
-        }
-    }
-}
-
 impl BlockHeaderKind {
     pub fn is_empty(self) -> bool
         ensures { result ≡ is_empty_kind self }
     {
-        match self {
-            BlockHeaderKind::Empty => true,
-            BlockHeaderKind::Unknown => false,
-            BlockHeaderKind::Known(_) => false,
-        }
+        matches!(self, BlockHeaderKind::Empty)
     }
 
     pub fn is_known(self) -> bool
         ensures { result ≡ is_known self }
     {
-        match self {
-            BlockHeaderKind::Empty => false,
-            BlockHeaderKind::Unknown => false,
-            BlockHeaderKind::Known(_) => true,
-        }
+        matches!(self, BlockHeaderKind::Known(_))
     }
 
     pub fn is_unknown(self) -> bool
         ensures { result ≡ is_unknown self }
     {
-        match self {
-            BlockHeaderKind::Empty => false,
-            BlockHeaderKind::Unknown => true,
-            BlockHeaderKind::Known(_) => false,
-        }
+        matches!(self, BlockHeaderKind::Unknown)
     }
 
-    // 0 Empty, 1 Unknown, 2 Metadata, 3 Data, 4 Undefined.
-    pub fn number(self) -> u32
-        ensures { result ≡ kind_number self }
-    {
-        match self {
-            BlockHeaderKind::Empty => 0,
-            BlockHeaderKind::Unknown => 1,
-            BlockHeaderKind::Known(t) => t.number(),
-        }
-    }
-
-    pub fn of_number(n: u32) -> KindRead
-        ensures { kind_answer result ≡ kind_of n }
-    {
-        match n {
-            0 => KindRead::Got(BlockHeaderKind::Empty),
-            1 => KindRead::Got(BlockHeaderKind::Unknown),
-            2 => KindRead::Got(BlockHeaderKind::Known(BlockType::Metadata)),
-            3 => KindRead::Got(BlockHeaderKind::Known(BlockType::Data)),
-            4 => KindRead::Got(BlockHeaderKind::Known(BlockType::Undefined)),
-            _ => KindRead::Refused(4),
-        }
-    }
-
+    #[tactic(auto, unfolding(crate::specs::BlockHeader::kind_of_type))]
     fn of_type(b: u8) -> BlockHeaderKind
         ensures { result ≡ kind_of_type b }
     {
@@ -138,23 +88,22 @@ impl BlockHeaderKind {
     }
 
     // What the bytes say, the erase count apart.
-    fn from_bytes(g: Geometry, raw: &[u8]) -> BlockHeaderKind
-        requires raw_len { length raw.now ≡ longest_block_header }
-        requires s_bound { (g.s ≤ 3) × (g.c ≤ 3) }
+    #[tactic(auto, unfolding(crate::specs::BlockHeader::kind_in), using(crate::proofs::Headers::type_within))]
+    fn from_bytes(g: Geometry, raw: &[u8; Granularity::LONGEST_BLOCK_HEADER]) -> BlockHeaderKind
+        requires { (g.s ≤ 3) × (g.c ≤ 3) }
         ensures { result ≡ kind_in g raw.now }
     {
-        let k = g.granularity;
-        let at = k.type_at();
+        let at = g.granularity.type_at();
         let t = raw[at];
-        if is_padded(k, raw) {
+        if is_padded(g.granularity, raw) {
             return BlockHeaderKind::named(raw, layout(g), t);
         }
         BlockHeaderKind::Unknown
     }
 
     // The same by the bytes that are named, with the type t.
-    fn named(raw: &[u8], layout: u8, t: u8) -> BlockHeaderKind
-        requires { length raw.now ≡ longest_block_header }
+    #[tactic(auto, unfolding(crate::specs::BlockHeader::named_kind))]
+    fn named(raw: &[u8; Granularity::LONGEST_BLOCK_HEADER], layout: u8, t: u8) -> BlockHeaderKind
         ensures { result ≡ named_kind layout t raw.now }
     {
         if is_marked(raw, layout) {
@@ -167,13 +116,44 @@ impl BlockHeaderKind {
     }
 }
 
+// 0 Empty, 1 Unknown, 2 Metadata, 3 Data, 4 Undefined.
+impl From<BlockHeaderKind> for u32 {
+    ghost from_gives = { λ kind n. n ≡ kind_number kind };
+
+    fn from(kind: BlockHeaderKind) -> u32 {
+        match kind {
+            BlockHeaderKind::Empty => 0,
+            BlockHeaderKind::Unknown => 1,
+            BlockHeaderKind::Known(t) => t.number(),
+        }
+    }
+}
+
+// The kind of such a number; 4 where there is none.
+impl TryFrom<u32> for BlockHeaderKind {
+    type Error = Refusal;
+
+    ghost try_from_gives = { λ n r. answer_of r ≡ kind_of n };
+
+    #[tactic(auto, unfolding(crate::specs::Record::kind_of))]
+    fn try_from(n: u32) -> Result<Self, Refusal> {
+        match n {
+            0 => Ok(BlockHeaderKind::Empty),
+            1 => Ok(BlockHeaderKind::Unknown),
+            2 => Ok(BlockHeaderKind::Known(BlockType::Metadata)),
+            3 => Ok(BlockHeaderKind::Known(BlockType::Data)),
+            4 => Ok(BlockHeaderKind::Known(BlockType::Undefined)),
+            _ => Err(Refusal::InvalidOperation),
+        }
+    }
+}
+
 // The layout byte: the field widths, and whether words are programmed.
 fn layout(g: Geometry) -> u8
     requires { (g.s ≤ 3) × (g.c ≤ 3) }
     ensures { result ≡ layout_byte g }
 {
-    let k = g.granularity;
-    g.s * 64 + g.c * 4 + k.layout_bit()
+    g.s * 64 + g.c * 4 + g.granularity.layout_bit()
 }
 
 // Whether a rule names this byte of a header: the mark and the layout, the erase count, or the type.
@@ -193,28 +173,20 @@ fn is_named(k: Granularity, i: usize) -> bool
 }
 
 // Whether the bytes of a header that no rule names are FF.
-fn is_padded(k: Granularity, raw: &[u8]) -> bool
-    requires { length raw.now ≡ longest_block_header }
+fn is_padded(k: Granularity, raw: &[u8; Granularity::LONGEST_BLOCK_HEADER]) -> bool
     ensures { result ≡ padded k raw.now }
 {
-    let n = k.block_header();
-    let mut i = 0;
-    while i < n {
-        if is_named(k, i) {
-            i += 1;
-            continue;
-        }
-        if raw[i] != 0xFF {
+    for i in 0..k.block_header() {
+        if !is_named(k, i) && raw[i] != 0xFF {
             return false;
         }
-        i += 1;
     }
     true
 }
 
 // Whether a header begins as that of a formatted block.
-fn is_marked(raw: &[u8], layout: u8) -> bool
-    requires { length raw.now ≡ longest_block_header }
+#[tactic(auto, unfolding(crate::specs::BlockHeader::marked))]
+fn is_marked(raw: &[u8; Granularity::LONGEST_BLOCK_HEADER], layout: u8) -> bool
     ensures { result ≡ marked layout raw.now }
 {
     if raw[0] != 0xBA {
@@ -227,8 +199,8 @@ fn is_marked(raw: &[u8], layout: u8) -> bool
 }
 
 // Whether all that is named is FF, the type t too.
-fn is_blank(raw: &[u8], t: u8) -> bool
-    requires { length raw.now ≡ longest_block_header }
+#[tactic(auto, unfolding(crate::specs::BlockHeader::blank))]
+fn is_blank(raw: &[u8; Granularity::LONGEST_BLOCK_HEADER], t: u8) -> bool
     ensures { result ≡ blank raw.now t }
 {
     if raw[0] != 0xFF {
@@ -244,22 +216,17 @@ fn is_blank(raw: &[u8], t: u8) -> bool
 }
 
 // The erase count, low byte first.
-fn count(raw: &[u8]) -> u32
-    requires { length raw.now ≡ longest_block_header }
+fn count(raw: &[u8; Granularity::LONGEST_BLOCK_HEADER]) -> u32
     ensures { result ≡ erase_count_in raw.now }
 {
-    let a = raw[4] as u32;
-    let b = raw[5] as u32;
-    let c = raw[6] as u32;
-    let d = raw[7] as u32;
-    a + 256 * (b + 256 * (c + 256 * d))
+    u32::from_le_bytes([raw[4], raw[5], raw[6], raw[7]])
 }
 
 // The type at its place, and FF at the other one.
 fn type_if(k: Granularity, at: usize, t: BlockType) -> u8
     ensures { result ≡ type_if k at t }
 {
-    if k.type_at() == at { t.byte() } else { 0xFF }
+    if k.type_at() == at { u8::from(t) } else { 0xFF }
 }
 
 // The bytes of a header around its erase count, which stands low byte first: four before it, and the far type and FF behind it.
@@ -288,50 +255,22 @@ fn around(
     raw
 }
 
-#[derive(Clone, Copy)]
+#[derive(Clone, Copy, Debug, PartialEq, Eq)]
 pub struct BlockHeader {
     pub kind: BlockHeaderKind,
     pub erase_count: u32,
 }
 
-#[derive(Clone, Copy)]
-pub enum BlockHeaderRead {
-    Got(BlockHeader),
-    Refused(u8),
-}
-
-impl BlockHeaderRead {
-    pub fn number(self) -> u8
-        ensures { result ≡ header_number self }
-    {
-        match self {
-            BlockHeaderRead::Got(_) => 0,
-            BlockHeaderRead::Refused(k) => k,
-        }
-    }
-}
-
 impl BlockHeader {
-    fn read_into(g: Geometry, image: &[u8], block: u32, raw: &mut [u8]) -> BlockHeaderRead
-        requires { length raw.old ≡ longest_block_header }
-        ensures { header_answer result ≡ block_header_at g block image.now }
+    pub fn read(g: Geometry, image: &[u8], block: u32) -> Result<BlockHeader, Refusal>
+        ensures { answer_of result ≡ block_header_at g block image.now }
     {
-        let a = medium::read(g, image, block, 0, raw);
-        let Answered::Done = a else {
-            return BlockHeaderRead::Refused(a.number());
-        };
-        let n = count(raw);
-        BlockHeaderRead::Got(BlockHeader {
-            kind: BlockHeaderKind::from_bytes(g, raw),
-            erase_count: n,
+        let mut raw = [0u8; Granularity::LONGEST_BLOCK_HEADER];
+        medium::read(g, image, block, 0, &mut raw)?;
+        Ok(BlockHeader {
+            kind: BlockHeaderKind::from_bytes(g, &raw),
+            erase_count: count(&raw),
         })
-    }
-
-    pub fn read(g: Geometry, image: &[u8], block: u32) -> BlockHeaderRead
-        ensures { header_answer result ≡ block_header_at g block image.now }
-    {
-        let mut buffer = [0u8; Granularity::LONGEST_BLOCK_HEADER];
-        BlockHeader::read_into(g, image, block, &mut buffer)
     }
 
     // As many bytes as the longest header has, of which this one is the first.
@@ -340,8 +279,7 @@ impl BlockHeader {
         ensures { result ≡ wide_bytes g self.kind self.erase_count }
     {
         let n = self.erase_count;
-        let kind = self.kind;
-        match kind {
+        match self.kind {
             BlockHeaderKind::Empty => around(0xFF, 0xFF, 0xFF, 0xFF, n, 0xFF),
             BlockHeaderKind::Unknown => around(0xFF, 0xFF, 0xFF, 0xFF, n, 0xFF),
             BlockHeaderKind::Known(t) => {
@@ -357,13 +295,9 @@ impl BlockHeader {
     pub fn write(self, g: Geometry, image: &mut [u8], f: Fuse, block: u32) -> Stored
         ensures { ended result image.new ≡ run f (write_header g block self) image.old }
     {
-        let bad = medium::geometry::check(g, image.len());
-        if bad != 0 {
-            return Stored::Refused(bad, f);
-        }
+        f.beside(medium::geometry::check(g, image.len()))?;
         let raw = self.into_bytes(g);
-        let k = g.granularity;
-        let n = k.block_header();
+        let n = g.granularity.block_header();
         medium::write(g, image, f, block, 0, &raw[..n])
     }
 
@@ -371,10 +305,6 @@ impl BlockHeader {
     pub fn is_empty(self) -> bool
         ensures { result ≡ is_empty self }
     {
-        let kind = self.kind;
-        if kind.is_empty() {
-            return self.erase_count == 4294967295;
-        }
-        false
+        self.kind.is_empty() && self.erase_count == 4294967295
     }
 }

@@ -1,37 +1,19 @@
 // A block's record: what is known of a block once it was scanned.
 ghost use Rattle.std.specs.Prelude.{◌≡◌};
-ghost use Rattle.medium.specs.Operation.{counted};
-ghost use Rattle.blocks.specs.Format.{emptiness_answer};
-ghost use Rattle.blocks.specs.Record.{info_answer, info_number, new_unknown, allow_number, info_of, free_space, record_empty, add_used_bytes, update_stats_after_erase};
+ghost use Rattle.medium.specs.Refusal.{answer_of};
+ghost use Rattle.blocks.specs.Record.{new_unknown, allow_number, info_of, free_space, record_empty, add_used_bytes, update_stats_after_erase};
 
-use crate::format::Emptiness;
-use crate::header::{BlockHeader, BlockHeaderKind, BlockType, KindRead};
-use medium::geometry::{Counted, Geometry};
+use crate::header::{BlockHeader, BlockHeaderKind, BlockType};
+use medium::geometry::Geometry;
+use medium::refusal::Refusal;
 
-#[derive(Clone, Copy)]
+#[derive(Clone, Copy, Debug, PartialEq, Eq)]
 pub struct BlockInfo {
     pub header: BlockHeader,
     // The header's bytes too.
     pub used_bytes: u32,
     // Whether new objects may be allocated in the block.
     pub allow_alloc: bool,
-}
-
-#[derive(Clone, Copy)]
-pub enum BlockInfoRead {
-    Got(BlockInfo),
-    Refused(u8),
-}
-
-impl BlockInfoRead {
-    pub fn number(self) -> u8
-        ensures { result ≡ info_number self }
-    {
-        match self {
-            BlockInfoRead::Got(_) => 0,
-            BlockInfoRead::Refused(k) => k,
-        }
-    }
 }
 
 impl BlockInfo {
@@ -48,18 +30,21 @@ impl BlockInfo {
         }
     }
 
-    // From four numbers; 4 for a kind above 4 or a mark above 1.
-    pub fn of_numbers(kind: u32, erase_count: u32, used_bytes: u32, mark: u32) -> BlockInfoRead
-        ensures { info_answer result ≡ info_of kind erase_count used_bytes mark }
+    // From four numbers, each by its name; 4 for a kind above 4 or a mark above 1.
+    #[tactic(auto, unfolding(crate::specs::Record::info_of))]
+    pub fn of_numbers(
+        kind: u32,
+        erase_count: u32,
+        used_bytes: u32,
+        mark: u32,
+    ) -> Result<BlockInfo, Refusal>
+        ensures { answer_of result ≡ info_of kind erase_count used_bytes mark }
     {
-        let got = BlockHeaderKind::of_number(kind);
-        let KindRead::Got(known) = got else {
-            return BlockInfoRead::Refused(got.number());
-        };
+        let known = BlockHeaderKind::try_from(kind)?;
         if 1 < mark {
-            return BlockInfoRead::Refused(4);
+            return Err(Refusal::InvalidOperation);
         }
-        BlockInfoRead::Got(BlockInfo {
+        Ok(BlockInfo {
             header: BlockHeader {
                 kind: known,
                 erase_count: erase_count,
@@ -79,75 +64,59 @@ impl BlockInfo {
 
 impl BlockInfo {
     // What is left of the block, or 9 where listing ran past it.
-    pub fn free_space(self, g: Geometry) -> Counted
-        ensures { counted result ≡ free_space g self }
+    #[tactic(auto, unfolding(crate::specs::Record::free_space))]
+    pub fn free_space(self, g: Geometry) -> Result<usize, Refusal>
+        ensures { answer_of result ≡ free_space g self }
     {
-        let bad = medium::geometry::fit(g);
-        if bad != 0 {
-            return Counted::Refused(bad);
-        }
+        medium::geometry::fit(g)?;
         if g.size < self.used_bytes {
-            return Counted::Refused(9);
+            return Err(Refusal::RustPanic);
         }
-        Counted::Bytes((g.size - self.used_bytes) as usize)
+        Ok((g.size - self.used_bytes) as usize)
     }
 
     // Whether there is nothing but the header.
-    pub fn is_empty(self, g: Geometry) -> Emptiness
-        ensures { emptiness_answer result ≡ record_empty g self }
+    #[tactic(auto, unfolding(crate::specs::Record::record_empty))]
+    pub fn is_empty(self, g: Geometry) -> Result<bool, Refusal>
+        ensures { answer_of result ≡ record_empty g self }
     {
-        let bad = medium::geometry::fit(g);
-        if bad != 0 {
-            return Emptiness::Refused(bad);
-        }
-        let k = g.granularity;
-        if (self.used_bytes as usize) <= k.block_header() {
-            return Emptiness::Empty;
-        }
-        Emptiness::Written
+        medium::geometry::fit(g)?;
+        Ok((self.used_bytes as usize) <= g.granularity.block_header())
     }
 
     // The record with an object of this total size more.
-    pub fn add_used_bytes(self, g: Geometry, total_size: u32) -> BlockInfoRead
-        ensures { info_answer result ≡ add_used_bytes g self total_size }
+    #[tactic(auto, unfolding(crate::specs::Record::add_used_bytes))]
+    pub fn add_used_bytes(self, g: Geometry, total_size: u32) -> Result<BlockInfo, Refusal>
+        ensures { answer_of result ≡ add_used_bytes g self total_size }
     {
-        let bad = medium::geometry::fit(g);
-        if bad != 0 {
-            return BlockInfoRead::Refused(bad);
-        }
-        let k = g.granularity;
-        let used = (self.used_bytes as usize) + k.align(total_size);
+        medium::geometry::fit(g)?;
+        let used = (self.used_bytes as usize) + g.granularity.align(total_size);
         if 4294967295 < used {
-            return BlockInfoRead::Refused(9);
+            return Err(Refusal::RustPanic);
         }
-        let header = self.header;
-        BlockInfoRead::Got(BlockInfo {
-            header: header,
+        Ok(BlockInfo {
+            header: self.header,
             used_bytes: used as u32,
             allow_alloc: self.allow_alloc,
         })
     }
 
     // The record of the block once it is formatted; 9 where the erase count cannot go on.
-    pub fn update_stats_after_erase(self, g: Geometry) -> BlockInfoRead
-        ensures { info_answer result ≡ update_stats_after_erase g self }
+    #[tactic(auto, unfolding(crate::specs::Record::update_stats_after_erase))]
+    pub fn update_stats_after_erase(self, g: Geometry) -> Result<BlockInfo, Refusal>
+        ensures { answer_of result ≡ update_stats_after_erase g self }
     {
-        let bad = medium::geometry::fit(g);
-        if bad != 0 {
-            return BlockInfoRead::Refused(bad);
-        }
-        let header = self.header;
-        let n = header.erase_count;
+        medium::geometry::fit(g)?;
+        let n = self.header.erase_count;
         if n == 4294967295 {
-            return BlockInfoRead::Refused(9);
+            return Err(Refusal::RustPanic);
         }
-        let k = g.granularity;
-        BlockInfoRead::Got(BlockInfo {
+        Ok(BlockInfo {
             header: BlockHeader {
                 kind: BlockHeaderKind::Known(BlockType::Undefined),
                 erase_count: n + 1,
             },
-            used_bytes: k.block_header() as u32,
+            used_bytes: g.granularity.block_header() as u32,
             allow_alloc: true,
         })
     }

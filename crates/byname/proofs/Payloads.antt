@@ -15,7 +15,7 @@ use Rattle.medium.specs.Operation.{Answer, done, refused, and_then}
 use Rattle.medium.specs.Medium.{part, read_at}
 use Rattle.objects.specs.declared.types.ObjectType.{ObjectType}
 use Rattle.objects.specs.declared.header.ObjectHeader.{ObjectHeader}
-use Rattle.objects.specs.declared.header.PayloadSize.TheVariants.{Set, Unset}
+use Rattle.std.specs.Prelude.{Option, Some, None}
 use Rattle.objects.specs.declared.metadata.MetadataObjectHeader.{MetadataObjectHeader}
 use Rattle.objects.specs.Numbers.{number, unset_of}
 use Rattle.objects.specs.Header.{payload_of, payload_size_of}
@@ -80,13 +80,13 @@ module _ (g : Geometry) (o : ObjectHeader) (t : ObjectType) (pay y : List ℕ) (
   -- ---- the data objects' locations
 
   module _ (fine : check_of g (length y) ≡ 0) (s : Shape g pay) where
-    sized : payload_size_of g.s o ≡ Set (length pay)
+    sized : payload_size_of g.s o ≡ Some (length pay)
     unfolding payload_size_of payload_of
     sized = go (eqb o.size (unset_of g.s)) w.size
       where
-        go : (b : Bool) → pick b 0 o.size ≡ length pay → pick b Unset (Set o.size) ≡ Set (length pay)
+        go : (b : Bool) → pick b 0 o.size ≡ length pay → ◌≡◌ {A = Option ℕ} (pick b None (Some o.size)) (Some (length pay))
         go true e = absurd (omega (arith, s.long))
-        go false e = ap Set e
+        go false e = ap Some e
 
     list-end : list_end g (payload_size_of g.s o) ≡ done (s.locations * location_length g)
     list-end =

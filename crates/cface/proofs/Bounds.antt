@@ -16,16 +16,13 @@ use Rattle.medium.proofs.Checks.{Sound}
 use Rattle.objects.specs.declared.location.ObjectLocation.{ObjectLocation}
 use Rattle.objects.specs.declared.header.ObjectHeader.{ObjectHeader}
 use Rattle.objects.specs.declared.reader.ObjectReader.{ObjectReader}
-use Rattle.objects.specs.declared.reader.ReaderRead.{ReaderRead}
-use Rattle.objects.specs.declared.reader.Reading.TheVariants as reading
+use Rattle.std.specs.Prelude.{Ok}
 use Rattle.objects.specs.declared.metadata.MetadataObjectHeader.{MetadataObjectHeader}
-use Rattle.objects.specs.declared.metadata.MetadataRead.{MetadataRead}
-use Rattle.objects.specs.declared.metadata.NextLocation.{NextLocation}
 use Rattle.objects.specs.Types.{rank_of}
 use Rattle.objects.specs.Header.{header_at, payload_of, payload_size_of}
 use Rattle.objects.specs.Info.{Info, found, none, info_at}
-use Rattle.objects.specs.Reader.{Chunk, possible, readable, reader_answer, reader_at, remaining_of, left_of, cursor_at, moved, read_some, Counting, reading_answer, counting}
-use Rattle.objects.specs.Metadata.{metadata_answer, hash_at, number_at, location_at, read_metadata, metadata_of, metadata_at, list_end, listable, listed_at, past_location, Listed, location, no_more, next_location_answer, next_listed, next_location}
+use Rattle.objects.specs.Reader.{Chunk, possible, readable, reader_at, remaining_of, left_of, cursor_at, moved, read_some, Counting, reading_answer, counting}
+use Rattle.objects.specs.Metadata.{hash_at, number_at, location_at, read_metadata, metadata_of, metadata_at, list_end, listable, listed_at, past_location, Listed, location, no_more, next_listed, next_location}
 use Rattle.objects.proofs.Reading.{passed, payload_le}
 use Rattle.cface.specs.Objects.{SmallReader, SmallMetadata, SmallNext}
 
@@ -49,12 +46,9 @@ new_cursor g at unfinished img r e = go (header_at g at img) e
     go (done h) q = more h (readable unfinished (rank_of h.state)) q
     go (refused n) q = let z : ◌≡◌ {A = ℕ} 0 1 = cc in absurd (omega arith)
 
-pub new_small : (g : Geometry) (at : ObjectLocation) (unfinished : Bool) (img : List ℕ) (r : ReaderRead) → reader_answer r ≡ reader_at g at unfinished img → SmallReader (reader_answer r)
-new_small g at unfinished img r e = go (reader_answer r) e
-  where
-    go : (a : Answer ObjectReader) → a ≡ reader_at g at unfinished img → SmallReader a
-    go (done x) h = omega (arith, new_cursor g at unfinished img x (sym h))
-    go (refused n) h = tt
+pub new_small : (g : Geometry) (at : ObjectLocation) (unfinished : Bool) (img : List ℕ) (a : Answer ObjectReader) → a ≡ reader_at g at unfinished img → SmallReader a
+new_small g at unfinished img (done x) h = omega (arith, new_cursor g at unfinished img x (sym h))
+new_small g at unfinished img (refused n) h = tt
 
 left_fits : (s : ℕ) (r : ObjectReader) (n : ℕ) → remaining_of s r ≡ done n → r.cursor + n ≤ r.object.size
 unfolding remaining_of
@@ -86,14 +80,14 @@ read_small g r n img k e = go (left_of g r (length img)) refl e
     go (refused m) q h = let z : ◌≡◌ {A = ℕ} 0 1 = cc in absurd (omega arith)
 
 -- the reader that a read hands out
-pub read_fits : (g : Geometry) (r : ObjectReader) (n : ℕ) (img : List ℕ) {m : ℕ} {next : ObjectReader} → reading_answer (reading.Read m next) ≡ and_then (read_some g r n img) counting
-    → next.cursor ≤ r.object.size
-read_fits g r n img {m} {next} e = go (read_some g r n img) refl e
+pub read_fits : (g : Geometry) (r : ObjectReader) (n : ℕ) (img : List ℕ) (x : ℕ × ObjectReader) → reading_answer (Ok x) ≡ and_then (read_some g r n img) counting
+    → x.1.cursor ≤ r.object.size
+read_fits g r n img x e = go (read_some g r n img) refl e
   where
-    go : (a : Answer Chunk) → read_some g r n img ≡ a → reading_answer (reading.Read m next) ≡ and_then a counting → next.cursor ≤ r.object.size
+    go : (a : Answer Chunk) → read_some g r n img ≡ a → reading_answer (Ok x) ≡ and_then a counting → x.1.cursor ≤ r.object.size
     go (done k) d h =
-        let w : ◌≡◌ {A = Counting} (record { count = m; reader = next }) (record { count = length k.bytes; reader = k.reader }) = cc in
-        omega (arith, read_small g r n img k d, ap (λ (x : Counting). x.reader.cursor) w)
+        let w : ◌≡◌ {A = Counting} (record { count = x.0; reader = x.1 }) (record { count = length k.bytes; reader = k.reader }) = cc in
+        omega (arith, read_small g r n img k d, ap (λ (y : Counting). y.reader.cursor) w)
     go (refused k) d h = let z : ◌≡◌ {A = ℕ} 0 1 = cc in absurd (omega arith)
 
 -- ---- metadata headers
@@ -127,11 +121,11 @@ small_metadata : (a b : Answer MetadataObjectHeader) → a ≡ b → ((m : Metad
 small_metadata (done x) b h k = omega (arith, k x (sym h))
 small_metadata (refused n) b h k = tt
 
-pub metadata_small : (g : Geometry) (h : ObjectHeader) (img : List ℕ) (r : MetadataRead) → metadata_answer r ≡ read_metadata g h img → SmallMetadata (metadata_answer r)
-metadata_small g h img r e = small_metadata (metadata_answer r) (read_metadata g h img) e (read_cursor g h img)
+pub metadata_small : (g : Geometry) (h : ObjectHeader) (img : List ℕ) (a : Answer MetadataObjectHeader) → a ≡ read_metadata g h img → SmallMetadata a
+metadata_small g h img a e = small_metadata a (read_metadata g h img) e (read_cursor g h img)
 
-pub metadata_at_small : (g : Geometry) (at : ObjectLocation) (img : List ℕ) (r : MetadataRead) → metadata_answer r ≡ metadata_at g at img → SmallMetadata (metadata_answer r)
-metadata_at_small g at img r e = small_metadata (metadata_answer r) (metadata_at g at img) e (at_cursor g at img)
+pub metadata_at_small : (g : Geometry) (at : ObjectLocation) (img : List ℕ) (a : Answer MetadataObjectHeader) → a ≡ metadata_at g at img → SmallMetadata a
+metadata_at_small g at img a e = small_metadata a (metadata_at g at img) e (at_cursor g at img)
 
 -- the metadata header behind a location
 past_fits : (g : Geometry) (m : MetadataObjectHeader) (img : List ℕ) {l : ObjectLocation} {next : MetadataObjectHeader} → next_location g m img ≡ done (location l next)
@@ -156,10 +150,7 @@ past_fits g m img {l} {next} e = go (listable g m (length img)) refl e
         more end (leb end m.cursor) p.0.cursor_small p.0.fine.sound h
     go (refused n) q h = let z : ◌≡◌ {A = ℕ} 0 1 = cc in absurd (omega arith)
 
-pub next_small : (g : Geometry) (m : MetadataObjectHeader) (img : List ℕ) (r : NextLocation) → next_location_answer r ≡ next_location g m img → SmallNext (next_location_answer r)
-next_small g m img r e = go (next_location_answer r) e
-  where
-    go : (a : Answer Listed) → a ≡ next_location g m img → SmallNext a
-    go (done (location l next)) h = omega (arith, past_fits g m img (sym h))
-    go (done no_more) h = tt
-    go (refused n) h = tt
+pub next_small : (g : Geometry) (m : MetadataObjectHeader) (img : List ℕ) (a : Answer Listed) → a ≡ next_location g m img → SmallNext a
+next_small g m img (done (location l next)) h = omega (arith, past_fits g m img (sym h))
+next_small g m img (done no_more) h = tt
+next_small g m img (refused n) h = tt

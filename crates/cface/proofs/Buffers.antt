@@ -13,7 +13,9 @@ use Rattle.medium.specs.Geometry.{fit_of}
 use Rattle.medium.specs.Operation.{Answer, done, refused, and_then, or_refuse, number_of}
 use Rattle.objects.specs.declared.location.ObjectLocation.{ObjectLocation}
 use Rattle.objects.specs.declared.reader.ObjectReader.{ObjectReader}
-use Rattle.objects.specs.declared.reader.Reading.TheVariants as reading
+use Rattle.std.specs.Prelude.{Ok, Err}
+use Rattle.medium.specs.declared.refusal.Refusal.{Refusal}
+use Rattle.medium.specs.Refusal.{refusal_number}
 use Rattle.objects.specs.Reader.{Chunk, Counting, reading_answer, counting, filled}
 use Rattle.objects.specs.Location.{location_length, location_bytes, into_bytes}
 use Rattle.objects.proofs.Numbers.{length_bytes}
@@ -55,25 +57,25 @@ module _ (q : Answer (List ℕ)) (n u : ℕ) (part old : List ℕ) where
 -- ---- what a read hands out
 
 module _ (q : Answer Chunk) (u : ℕ) (ns buffer : List ℕ) where
-  pub chunk_told : (n : ℕ) (next : ObjectReader) → reading_answer (reading.Read n next) ≡ and_then q counting
-      → told 0 (two (reader_numbers next) (two (filled q buffer) n)) ≡ telling_by chunk_out (two ns (two buffer u)) q
+  pub chunk_told : (x : ℕ × ObjectReader) → reading_answer (Ok x) ≡ and_then q counting
+      → told 0 (two (reader_numbers x.1) (two (filled q buffer) x.0)) ≡ telling_by chunk_out (two ns (two buffer u)) q
   unfolding telling_by
-  chunk_told n next e = go q e
+  chunk_told x e = go q e
     where
-      go : (a : Answer Chunk) → reading_answer (reading.Read n next) ≡ and_then a counting
-          → told 0 (two (reader_numbers next) (two (filled a buffer) n)) ≡ told (number_of a) (kept_by chunk_out a (two ns (two buffer u)))
+      go : (a : Answer Chunk) → reading_answer (Ok x) ≡ and_then a counting
+          → told 0 (two (reader_numbers x.1) (two (filled a buffer) x.0)) ≡ told (number_of a) (kept_by chunk_out a (two ns (two buffer u)))
       go (done k) h =
-          let w : ◌≡◌ {A = Counting} (record { count = n; reader = next }) (record { count = length k.bytes; reader = k.reader }) = cc in
-          let m : next ≡ k.reader = ap (λ (x : Counting). x.reader) w in
-          let l : n ≡ length k.bytes = ap (λ (x : Counting). x.count) w in
+          let w : ◌≡◌ {A = Counting} (record { count = x.0; reader = x.1 }) (record { count = length k.bytes; reader = k.reader }) = cc in
+          let m : x.1 ≡ k.reader = ap (λ (y : Counting). y.reader) w in
+          let l : x.0 ≡ length k.bytes = ap (λ (y : Counting). y.count) w in
           rw (m, l)
       go (refused m) h = let z : ◌≡◌ {A = ℕ} 0 1 = cc in absurd (omega arith)
 
-  pub chunk_none : (n : ℕ) → reading_answer (reading.Refused n) ≡ and_then q counting → told n (two ns (two (filled q buffer) u)) ≡ telling_by chunk_out (two ns (two buffer u)) q
+  pub chunk_none : (r : Refusal) → reading_answer (Err r) ≡ and_then q counting → told (refusal_number r) (two ns (two (filled q buffer) u)) ≡ telling_by chunk_out (two ns (two buffer u)) q
   unfolding telling_by
-  chunk_none n e = go q e
+  chunk_none r e = go q e
     where
-      go : (a : Answer Chunk) → reading_answer (reading.Refused n) ≡ and_then a counting
-          → told n (two ns (two (filled a buffer) u)) ≡ told (number_of a) (kept_by chunk_out a (two ns (two buffer u)))
+      go : (a : Answer Chunk) → reading_answer (Err r) ≡ and_then a counting
+          → told (refusal_number r) (two ns (two (filled a buffer) u)) ≡ told (number_of a) (kept_by chunk_out a (two ns (two buffer u)))
       go (done k) h = let z : ◌≡◌ {A = ℕ} 0 1 = cc in absurd (omega arith)
-      go (refused m) h = let z : n ≡ m = cc in rw z
+      go (refused m) h = let z : refusal_number r ≡ m = cc in rw z

@@ -2,4 +2,3 @@ pub mod Bounds
 pub mod Buffers
 pub mod Counts
 pub mod Spending
-pub mod Totals

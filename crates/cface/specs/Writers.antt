@@ -1,14 +1,12 @@
 -- Writers that cross as numbers: header, cursor, held, the four numbers of the tail, spent. "A writer … comes back as it went in, except a
 -- writer after 8, which is spent."
-use Rattle.std.specs.Prelude.{ℕ, ◌<◌, ◌&&◌, List, [], ◌∷◌, ◌++◌, get_or, set, leb, eqb}
-use Rattle.medium.specs.declared.fuse.Stored.{Stored}
-use Rattle.medium.specs.declared.fuse.Stored.TheVariants as stored
+use Rattle.std.specs.Prelude.{ℕ, ◌<◌, ◌&&◌, List, [], ◌∷◌, ◌++◌, get_or, set, leb, eqb, Result, Ok, Err}
+use Rattle.medium.specs.declared.fuse.Fuse.{Fuse}
+use Rattle.medium.specs.declared.fuse.Stopped.{Stopped}
 use Rattle.medium.specs.Granularity.{pick}
 use Rattle.medium.specs.Operation.{Answer, done, and_then, or_refuse}
 use Rattle.objects.specs.declared.header.ObjectHeader.{ObjectHeader}
 use Rattle.writer.specs.declared.writer.ObjectWriter.{ObjectWriter}
-use Rattle.writer.specs.declared.writer.Wrote.{Wrote}
-use Rattle.writer.specs.declared.writer.Wrote.TheVariants as wrote
 use Rattle.crossing.specs.Crossing.{CrossingWith, crossed_with}
 use Rattle.crossing.specs.Values.{header_of, header_numbers}
 use Rattle.crossing.specs.Records.{flag_number}
@@ -47,9 +45,9 @@ writer_numbers w = header_numbers w.object ++ (w.cursor ∷ w.held ∷ tail_numb
 abbrev pub Small : ObjectWriter → Type 0
 Small w = (w.cursor < 4294967296) × (w.held < 4294967296)
 
-abbrev pub SmallBy : Stored → ObjectWriter → Type 0
-SmallBy (stored.Done f) w = Small w
-SmallBy (stored.Refused n f) w = Unit {0}
+abbrev pub SmallBy : Result (ObjectWriter × Fuse) Stopped → Type 0
+SmallBy (Ok x) = Small x.0
+SmallBy (Err s) = Unit {0}
 
 -- after 8 the last number says that the writer is spent
 abbrev pub left_by : ℕ → List ℕ → List ℕ
@@ -57,13 +55,3 @@ left_by n ns = pick (eqb n 8) (set ns 11 1) ns
 
 unfoldable pub spent_after : {S : Type 0} → CrossingWith S (List ℕ) → CrossingWith S (List ℕ)
 spent_after x = crossed_with x.number x.units x.state (left_by x.number x.out)
-
--- ---- an object written whole: the answer with the total size apart, which is none where it is refused
-
-abbrev pub wrote_stored : Wrote → Stored
-wrote_stored (wrote.Done n f) = stored.Done f
-wrote_stored (wrote.Refused k f) = stored.Refused k f
-
-abbrev pub wrote_total : Wrote → ℕ
-wrote_total (wrote.Done n f) = n
-wrote_total (wrote.Refused k f) = 0

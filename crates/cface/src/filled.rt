@@ -4,26 +4,23 @@ ghost use Rattle.medium.specs.Medium.{read_at};
 ghost use Rattle.objects.specs.Location.{location_length, into_bytes};
 ghost use Rattle.crossing.specs.Crossing.{told, telling, telling_by, plain, two, bytes_out};
 
-use medium::fuse::Answered;
-use medium::geometry;
 use medium::geometry::Geometry;
+use medium::{geometry, refusal};
 use objects::location::ObjectLocation;
 
 // A range of one block, over the whole buffer.
 pub(crate) fn read(g: Geometry, image: &[u8], block: u32, offset: u32, buffer: &mut [u8]) -> u8
     ensures { told result buffer.new ≡ telling plain buffer.old (read_at g block offset (length buffer.old) image.now) }
 {
-    let a = medium::read(g, image, block, offset as usize, buffer);
-    a.number()
+    refusal::number(medium::read(g, image, block, offset as usize, buffer))
 }
 
 // The bytes of a location over the first of six, and how many.
 pub(crate) fn location(g: Geometry, at: ObjectLocation, bytes: &mut [u8; 6], len: &mut u64) -> u8
     ensures { told result (two bytes.new len.new) ≡ telling_by bytes_out (two bytes.old len.old) (into_bytes g at (location_length g)) }
 {
-    let bad = geometry::fit(g);
-    if bad != 0 {
-        return bad;
+    if let Err(e) = geometry::fit(g) {
+        return e.number();
     }
     let n = (g.c as usize) + (g.s as usize);
     first(g, at, n, bytes, len)
@@ -34,10 +31,11 @@ fn first(g: Geometry, at: ObjectLocation, n: usize, bytes: &mut [u8], len: &mut 
     requires { n ≤ length bytes.old }
     ensures { told result (two bytes.new len.new) ≡ telling_by bytes_out (two bytes.old len.old) (into_bytes g at n) }
 {
-    let a = at.into_bytes(g, &mut bytes[..n]);
-    let Answered::Done = a else {
-        return a.number();
-    };
-    *len = n as u64;
-    0
+    match at.into_bytes(g, &mut bytes[..n]) {
+        Ok(()) => {
+            *len = n as u64;
+            0
+        }
+        Err(e) => e.number(),
+    }
 }

@@ -6,9 +6,8 @@ ghost use Rattle.objects.specs.Header.{header_at, update_state, set_payload_size
 ghost use Rattle.crossing.specs.Crossing.{told, telling, geometry_in, crossed_with, crossing_with, fuse_of, given};
 ghost use Rattle.crossing.specs.Values.{header_numbers, located, target_of, header_of};
 
-use crossing::values::TargetRead;
-use crossing::{call, outs, values};
-use objects::header::{HeaderRead, ObjectHeader};
+use crossing::{call, hand, outs, values};
+use objects::header::ObjectHeader;
 use objects::location::ObjectLocation;
 
 // The header at a place.
@@ -28,7 +27,7 @@ pub extern "C" fn stumpchoir_header_read(
         offset: offset,
     };
     let a = ObjectHeader::read(g, image, at);
-    outs::hand_header(a, header)
+    hand::hand(a, header)
 }
 
 // Stores the mark of a state that lies ahead, or is 10; the present state stores nothing, backwards is 4, Free is 9.
@@ -44,14 +43,12 @@ pub extern "C" fn stumpchoir_update_state(
     ensures { crossed_with result units.new image.new header.new ≡ crossing_with header_numbers units.old header.old (run (fuse_of fused units.old) (given (geometry_in geometry.now) (target_of header.old state) (λ g t. update_state g t.header t.state)) image.old) }
 {
     let g = call::geometry(geometry);
-    let of = values::target_of(header, state);
-    let TargetRead::Got(t) = of else {
-        return call::refusal(g, image.len(), of.number());
+    let t = match values::target_of(header, state) {
+        Ok(t) => t,
+        Err(e) => return call::refusal(g, image.len(), e.number()),
     };
-    let h = t.header;
-    let to = t.state;
     let f = call::fuse_of(fused, units);
-    let a = h.update_state(g, image, f, to);
+    let a = t.header.update_state(g, image, f, t.state);
     outs::hand_back(a, units, header)
 }
 
@@ -68,9 +65,9 @@ pub extern "C" fn stumpchoir_set_payload_size(
     ensures { crossed_with result units.new image.new header.new ≡ crossing_with header_numbers units.old header.old (run (fuse_of fused units.old) (given (geometry_in geometry.now) (header_of header.old) (λ g h. set_payload_size g h payload_size)) image.old) }
 {
     let g = call::geometry(geometry);
-    let of = values::header_of(header);
-    let HeaderRead::Got(h) = of else {
-        return call::refusal(g, image.len(), of.number());
+    let h = match values::header_of(header) {
+        Ok(h) => h,
+        Err(e) => return call::refusal(g, image.len(), e.number()),
     };
     let f = call::fuse_of(fused, units);
     let a = h.set_payload_size(g, image, f, payload_size);

@@ -8,8 +8,7 @@ ghost use Rattle.objects.specs.Info.{info_at, size_of_object};
 ghost use Rattle.crossing.specs.Crossing.{told, two, telling_by, geometry_in, telling, plain, asked, crossed_with, crossing_with, fuse_of, given};
 ghost use Rattle.crossing.specs.Values.{info_out, located, header_of, header_numbers};
 
-use crossing::{call, outs, values};
-use objects::header::HeaderRead;
+use crossing::{call, hand, outs, values};
 use objects::info;
 use objects::location::ObjectLocation;
 
@@ -44,12 +43,12 @@ pub extern "C" fn stumpchoir_info_total_size(
     ensures { told result total_size.new ≡ telling plain total_size.old (asked (geometry_in geometry.now) (header_of header.now) (λ g h. size_of_object g h)) }
 {
     let g = call::geometry(geometry);
-    let of = values::header_of(header);
-    let HeaderRead::Got(h) = of else {
-        return call::refusal_alone(g, of.number());
+    let h = match values::header_of(header) {
+        Ok(h) => h,
+        Err(e) => return call::refusal_alone(g, e.number()),
     };
     let a = info::total_size(g, h);
-    call::hand_count(a, total_size)
+    hand::hand(a, total_size)
 }
 
 // Stores the mark of a Finalized object, or is 10.
@@ -64,9 +63,9 @@ pub extern "C" fn stumpchoir_info_finalize(
     ensures { crossed_with result units.new image.new header.new ≡ crossing_with header_numbers units.old header.old (run (fuse_of fused units.old) (given (geometry_in geometry.now) (header_of header.old) (λ g h. set_state g h Valid)) image.old) }
 {
     let g = call::geometry(geometry);
-    let of = values::header_of(header);
-    let HeaderRead::Got(h) = of else {
-        return call::refusal(g, image.len(), of.number());
+    let h = match values::header_of(header) {
+        Ok(h) => h,
+        Err(e) => return call::refusal(g, image.len(), e.number()),
     };
     let f = call::fuse_of(fused, units);
     let a = info::finalize(g, image, f, h);
@@ -85,9 +84,9 @@ pub extern "C" fn stumpchoir_info_delete(
     ensures { crossed_with result units.new image.new header.new ≡ crossing_with header_numbers units.old header.old (run (fuse_of fused units.old) (given (geometry_in geometry.now) (header_of header.old) (λ g h. set_state g h Deleted)) image.old) }
 {
     let g = call::geometry(geometry);
-    let of = values::header_of(header);
-    let HeaderRead::Got(h) = of else {
-        return call::refusal(g, image.len(), of.number());
+    let h = match values::header_of(header) {
+        Ok(h) => h,
+        Err(e) => return call::refusal(g, image.len(), e.number()),
     };
     let f = call::fuse_of(fused, units);
     let a = info::delete(g, image, f, h);

@@ -6,7 +6,7 @@ ghost use Rattle.crossing.specs.Crossing.{told, two, telling_by, bytes_out, geom
 ghost use Rattle.crossing.specs.Values.{located, location_numbers};
 
 use crate::filled;
-use crossing::{call, outs};
+use crossing::{call, hand};
 use objects::location::ObjectLocation;
 
 // The bytes of a location: the first c + s of the six are set, and *len is c + s.
@@ -39,5 +39,5 @@ pub extern "C" fn stumpchoir_location_from_bytes(
 {
     let g = call::geometry(geometry);
     let a = ObjectLocation::from_bytes(g, bytes);
-    outs::hand_location(a, location)
+    hand::hand(a, location)
 }

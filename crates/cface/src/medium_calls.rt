@@ -7,8 +7,8 @@ ghost use Rattle.medium.specs.Operation.{run};
 ghost use Rattle.crossing.specs.Crossing.{geometry_in, told, telling, plain, crossed, crossing, fuse_of};
 
 use crate::filled;
-use crossing::call;
-use medium::geometry;
+use crossing::{call, hand};
+use medium::{geometry, refusal};
 
 // A geometry and the room for it: 0, 6 or 7.
 #[unsafe(no_mangle)]
@@ -16,7 +16,7 @@ pub extern "C" fn stumpchoir_check(geometry: &[u32; 6], image: &[u8]) -> u8
     ensures { result ≡ check_of (geometry_in geometry.now) (length image.now) }
 {
     let g = call::geometry(geometry);
-    geometry::check(g, image.len())
+    refusal::number(geometry::check(g, image.len()))
 }
 
 // n bytes aligned up to whole units.
@@ -26,7 +26,7 @@ pub extern "C" fn stumpchoir_align(geometry: &[u32; 6], n: u32, aligned: &mut u6
 {
     let g = call::geometry(geometry);
     let a = geometry::align(g, n);
-    call::hand_count(a, aligned)
+    hand::hand(a, aligned)
 }
 
 // A range of one block, into the buffer.

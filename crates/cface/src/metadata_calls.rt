@@ -8,10 +8,8 @@ ghost use Rattle.crossing.specs.Values.{metadata_numbers, header_of, located, me
 
 use crate::cursors;
 use crossing::{call, values};
-use objects::header::HeaderRead;
 use objects::location::ObjectLocation;
 use objects::metadata;
-use objects::metadata::MetadataRead;
 
 // Path hash and name location of an object that is known by its header.
 #[unsafe(no_mangle)]
@@ -24,9 +22,9 @@ pub extern "C" fn stumpchoir_info_read_metadata(
     ensures { told result metadata.new ≡ telling metadata_numbers metadata.old (asked_in (geometry_in geometry.now) (length image.now) (header_of header.now) (λ g h. read_metadata g h image.now)) }
 {
     let g = call::geometry(geometry);
-    let of = values::header_of(header);
-    let HeaderRead::Got(h) = of else {
-        return call::refusal(g, image.len(), of.number());
+    let h = match values::header_of(header) {
+        Ok(h) => h,
+        Err(e) => return call::refusal(g, image.len(), e.number()),
     };
     let a = metadata::read(g, image, h);
     cursors::hand_metadata(a, metadata)
@@ -64,9 +62,9 @@ pub extern "C" fn stumpchoir_metadata_next_object_location(
     ensures { told result (two metadata.new (two found.new location.new)) ≡ telling_by next_location_out (two metadata.old (two found.old location.old)) (asked_in (geometry_in geometry.now) (length image.now) (metadata_of metadata.old) (λ g m. next_location g m image.now)) }
 {
     let g = call::geometry(geometry);
-    let of = values::metadata_of(metadata);
-    let MetadataRead::Got(m) = of else {
-        return call::refusal(g, image.len(), of.number());
+    let m = match values::metadata_of(metadata) {
+        Ok(m) => m,
+        Err(e) => return call::refusal(g, image.len(), e.number()),
     };
     let a = m.next_object_location(g, image);
     cursors::hand_next(a, metadata, found, location)

@@ -10,9 +10,8 @@ ghost use Rattle.crossing.specs.Values.{located, header_numbers, header_of};
 
 use crate::writers;
 use crossing::{call, outs, values};
-use objects::header::HeaderRead;
 use objects::location::ObjectLocation;
-use objects::types::{ObjectType, ObjectTypeRead};
+use objects::types::ObjectType;
 use writer::writer::ObjectWriter;
 
 // An object of a type (8F, 8E or 8D, else 4), written whole: *total_size is its header and payload together. The type is stored first,
@@ -32,9 +31,9 @@ pub extern "C" fn stumpchoir_write_to(
     ensures { crossed_with result units.new image.new total_size.new ≡ crossing_with plain units.old total_size.old (run (fuse_of fused units.old) (given (geometry_in geometry.now) (object_type_of kind) (λ g t. write_to g (located block offset) t src.now)) image.old) }
 {
     let g = call::geometry(geometry);
-    let of = ObjectType::of_number(kind as u32);
-    let ObjectTypeRead::Got(t) = of else {
-        return call::refusal(g, image.len(), of.number());
+    let t = match ObjectType::try_from(kind as u32) {
+        Ok(t) => t,
+        Err(e) => return call::refusal(g, image.len(), e.number()),
     };
     let at = ObjectLocation {
         block: block,
@@ -61,9 +60,9 @@ pub extern "C" fn stumpchoir_copy_object(
     ensures { crossed_with result units.new image.new copy.new ≡ crossing_with header_numbers units.old copy.old (run (fuse_of fused units.old) (given (geometry_in geometry.now) (header_of header.now) (λ g h. copy_object g h (located block offset))) image.old) }
 {
     let g = call::geometry(geometry);
-    let of = values::header_of(header);
-    let HeaderRead::Got(h) = of else {
-        return call::refusal(g, image.len(), of.number());
+    let h = match values::header_of(header) {
+        Ok(h) => h,
+        Err(e) => return call::refusal(g, image.len(), e.number()),
     };
     let to = ObjectLocation {
         block: block,
@@ -89,9 +88,9 @@ pub extern "C" fn stumpchoir_move_object(
     ensures { crossed_with result units.new image.new copy.new ≡ crossing_with header_numbers units.old copy.old (run (fuse_of fused units.old) (given (geometry_in geometry.now) (header_of header.now) (λ g h. move_object g h (located block offset))) image.old) }
 {
     let g = call::geometry(geometry);
-    let of = values::header_of(header);
-    let HeaderRead::Got(h) = of else {
-        return call::refusal(g, image.len(), of.number());
+    let h = match values::header_of(header) {
+        Ok(h) => h,
+        Err(e) => return call::refusal(g, image.len(), e.number()),
     };
     let to = ObjectLocation {
         block: block,

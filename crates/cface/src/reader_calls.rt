@@ -7,9 +7,9 @@ ghost use Rattle.crossing.specs.Crossing.{told, telling, geometry_in, plain, ask
 ghost use Rattle.crossing.specs.Values.{reader_numbers, located, reader_of};
 
 use crate::cursors;
-use crossing::{call, values};
+use crossing::{call, hand, values};
 use objects::location::ObjectLocation;
-use objects::reader::{ObjectReader, ReaderRead};
+use objects::reader::ObjectReader;
 
 // A reader of the Finalized object at a place, or of any object that is there.
 #[unsafe(no_mangle)]
@@ -38,12 +38,12 @@ pub extern "C" fn stumpchoir_reader_len(geometry: &[u32; 6], reader: &[u32; 6], 
     ensures { told result len.new ≡ telling plain len.old (asked (geometry_in geometry.now) (reader_of reader.now) (λ g r. reader_len g r)) }
 {
     let g = call::geometry(geometry);
-    let of = values::reader_of(reader);
-    let ReaderRead::Got(r) = of else {
-        return call::refusal_alone(g, of.number());
+    let r = match values::reader_of(reader) {
+        Ok(r) => r,
+        Err(e) => return call::refusal_alone(g, e.number()),
     };
     let a = r.len(g);
-    call::hand_count(a, len)
+    hand::hand(a, len)
 }
 
 // What is left of the payload; 9 where the cursor is beyond it.
@@ -56,12 +56,12 @@ pub extern "C" fn stumpchoir_reader_remaining(
     ensures { told result remaining.new ≡ telling plain remaining.old (asked (geometry_in geometry.now) (reader_of reader.now) (λ g r. Rattle.objects.specs.Reader.remaining g r)) }
 {
     let g = call::geometry(geometry);
-    let of = values::reader_of(reader);
-    let ReaderRead::Got(r) = of else {
-        return call::refusal_alone(g, of.number());
+    let r = match values::reader_of(reader) {
+        Ok(r) => r,
+        Err(e) => return call::refusal_alone(g, e.number()),
     };
     let a = r.remaining(g);
-    call::hand_count(a, remaining)
+    hand::hand(a, remaining)
 }
 
 // Back to the start of the payload.
@@ -85,9 +85,9 @@ pub extern "C" fn stumpchoir_reader_read(
     ensures { told result (two reader.new (two buffer.new read.new)) ≡ telling_by chunk_out (two reader.old (two buffer.old read.old)) (asked_in (geometry_in geometry.now) (length image.now) (reader_of reader.old) (λ g r. read_some g r (length buffer.old) image.now)) }
 {
     let g = call::geometry(geometry);
-    let of = values::reader_of(reader);
-    let ReaderRead::Got(r) = of else {
-        return call::refusal(g, image.len(), of.number());
+    let r = match values::reader_of(reader) {
+        Ok(r) => r,
+        Err(e) => return call::refusal(g, image.len(), e.number()),
     };
     cursors::read(g, image, r, reader, buffer, read)
 }

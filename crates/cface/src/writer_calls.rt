@@ -9,10 +9,9 @@ ghost use Rattle.crossing.specs.Crossing.{crossed_with, crossing_with, fuse_of, 
 ghost use Rattle.crossing.specs.Values.{located};
 
 use crate::writers;
-use crossing::call;
-use medium::fuse::Answered;
+use crossing::{call, hand};
 use objects::location::ObjectLocation;
-use objects::types::{ObjectType, ObjectTypeRead};
+use objects::types::ObjectType;
 use writer::writer::ObjectWriter;
 
 // Stores the type (8F, 8E or 8D, else 4) of a new object, over Free or over Allocated of the same type: its writer. Under the strict mark
@@ -31,16 +30,16 @@ pub extern "C" fn stumpchoir_writer_allocate(
     ensures { crossed_with result units.new image.new writer.new ≡ crossing_with writer_numbers units.old writer.old (run (fuse_of fused units.old) (given (geometry_in geometry.now) (object_type_of kind) (λ g t. allocate g (located block offset) t)) image.old) }
 {
     let g = call::geometry(geometry);
-    let of = ObjectType::of_number(kind as u32);
-    let ObjectTypeRead::Got(t) = of else {
-        return call::refusal(g, image.len(), of.number());
+    let t = match ObjectType::try_from(kind as u32) {
+        Ok(t) => t,
+        Err(e) => return call::refusal(g, image.len(), e.number()),
     };
     let at = ObjectLocation {
         block: block,
         offset: offset,
     };
     let f = call::fuse_of(fused, units);
-    let a = ObjectWriter::allocate(g, image, f, at, t);
+    let a = ObjectWriter::try_allocate(g, image, f, at, t);
     writers::hand_out(a, units, writer)
 }
 
@@ -54,14 +53,12 @@ pub extern "C" fn stumpchoir_writer_space(
     ensures { told result space.new ≡ telling plain space.old (asked (geometry_in geometry.now) (writer_of writer.now) (λ g w. space_of g w)) }
 {
     let g = call::geometry(geometry);
-    let of = writers::writer_of(writer);
-    let read = of.answer;
-    let Answered::Done = read else {
-        return call::refusal_alone(g, read.number());
+    let w = match writers::writer_of(writer) {
+        Ok(w) => w,
+        Err(e) => return call::refusal_alone(g, e.number()),
     };
-    let w = of.writer;
     let a = w.space(g);
-    call::hand_count(a, space)
+    hand::hand(a, space)
 }
 
 // The payload bytes taken so far, stored or held.
@@ -74,14 +71,12 @@ pub extern "C" fn stumpchoir_writer_payload_size(
     ensures { told result payload_size.new ≡ telling plain payload_size.old (asked (geometry_in geometry.now) (writer_of writer.now) (λ g w. size_of_payload g w)) }
 {
     let g = call::geometry(geometry);
-    let of = writers::writer_of(writer);
-    let read = of.answer;
-    let Answered::Done = read else {
-        return call::refusal_alone(g, read.number());
+    let w = match writers::writer_of(writer) {
+        Ok(w) => w,
+        Err(e) => return call::refusal_alone(g, e.number()),
     };
-    let w = of.writer;
     let a = w.payload_size(g);
-    call::hand_count(a, payload_size)
+    hand::hand(a, payload_size)
 }
 
 // Those and the header.
@@ -94,14 +89,12 @@ pub extern "C" fn stumpchoir_writer_total_size(
     ensures { told result total_size.new ≡ telling plain total_size.old (asked (geometry_in geometry.now) (writer_of writer.now) (λ g w. size_of_object g w)) }
 {
     let g = call::geometry(geometry);
-    let of = writers::writer_of(writer);
-    let read = of.answer;
-    let Answered::Done = read else {
-        return call::refusal_alone(g, read.number());
+    let w = match writers::writer_of(writer) {
+        Ok(w) => w,
+        Err(e) => return call::refusal_alone(g, e.number()),
     };
-    let w = of.writer;
     let a = w.total_size(g);
-    call::hand_count(a, total_size)
+    hand::hand(a, total_size)
 }
 
 // Takes payload bytes: whole words are stored, less than a word is held. 5 where they are more than the space. The word that held bytes
@@ -118,14 +111,12 @@ pub extern "C" fn stumpchoir_writer_write(
     ensures { crossed_with result units.new image.new writer.new ≡ spent_after (crossing_with writer_numbers units.old writer.old (run (fuse_of fused units.old) (given (geometry_in geometry.now) (writer_of writer.old) (λ g w. write_some g w src.now)) image.old)) }
 {
     let g = call::geometry(geometry);
-    let of = writers::writer_of(writer);
-    let read = of.answer;
-    let Answered::Done = read else {
-        return call::refusal(g, image.len(), read.number());
+    let w = match writers::writer_of(writer) {
+        Ok(w) => w,
+        Err(e) => return call::refusal(g, image.len(), e.number()),
     };
-    let w = of.writer;
     let f = call::fuse_of(fused, units);
-    let a = w.write(g, image, f, src);
+    let a = w.try_write(g, image, f, src);
     writers::hand_back(a, units, writer)
 }
 
@@ -141,14 +132,12 @@ pub extern "C" fn stumpchoir_writer_finalize(
     ensures { crossed_with result units.new image.new writer.new ≡ spent_after (crossing_with writer_numbers units.old writer.old (run (fuse_of fused units.old) (given (geometry_in geometry.now) (writer_of writer.old) (λ g w. finalize g w)) image.old)) }
 {
     let g = call::geometry(geometry);
-    let of = writers::writer_of(writer);
-    let read = of.answer;
-    let Answered::Done = read else {
-        return call::refusal(g, image.len(), read.number());
+    let w = match writers::writer_of(writer) {
+        Ok(w) => w,
+        Err(e) => return call::refusal(g, image.len(), e.number()),
     };
-    let w = of.writer;
     let f = call::fuse_of(fused, units);
-    let a = w.finalize(g, image, f);
+    let a = w.try_finalize(g, image, f);
     writers::hand_back(a, units, writer)
 }
 
@@ -165,13 +154,11 @@ pub extern "C" fn stumpchoir_writer_delete(
     ensures { crossed_with result units.new image.new writer.new ≡ spent_after (crossing_with writer_numbers units.old writer.old (run (fuse_of fused units.old) (given (geometry_in geometry.now) (writer_of writer.old) (λ g w. delete g w)) image.old)) }
 {
     let g = call::geometry(geometry);
-    let of = writers::writer_of(writer);
-    let read = of.answer;
-    let Answered::Done = read else {
-        return call::refusal(g, image.len(), read.number());
+    let w = match writers::writer_of(writer) {
+        Ok(w) => w,
+        Err(e) => return call::refusal(g, image.len(), e.number()),
     };
-    let w = of.writer;
     let f = call::fuse_of(fused, units);
-    let a = w.delete(g, image, f);
+    let a = w.try_delete(g, image, f);
     writers::hand_back(a, units, writer)
 }

@@ -9,10 +9,9 @@ ghost use Rattle.medium.specs.Operation.{run};
 ghost use Rattle.crossing.specs.Crossing.{told, telling, geometry_in, crossed, crossing, fuse_of, given, plain};
 ghost use Rattle.crossing.specs.Records.{block_header_numbers, block_header_of, flag_number, block_type_of};
 
-use blocks::header::{BlockHeader, BlockHeaderKind, KindRead};
+use blocks::header::{BlockHeader, BlockHeaderKind};
 use blocks::{format, scan};
-use crossing::records::BlockTypeRead;
-use crossing::{call, records};
+use crossing::{call, hand, records};
 
 // The header of a block: kind and erase count.
 #[unsafe(no_mangle)]
@@ -26,7 +25,7 @@ pub extern "C" fn stumpchoir_block_header_read(
 {
     let g = call::geometry(geometry);
     let a = BlockHeader::read(g, image, block);
-    records::hand_header(a, header)
+    hand::hand(a, header)
 }
 
 // Programs a header, or is 10.
@@ -43,9 +42,9 @@ pub extern "C" fn stumpchoir_block_header_write(
     ensures { crossed result units.new image.new ≡ crossing units.old (run (fuse_of fused units.old) (given (geometry_in geometry.now) (kind_of kind) (λ g k. write_header g block (block_header_of k erase_count))) image.old) }
 {
     let g = call::geometry(geometry);
-    let of = BlockHeaderKind::of_number(kind);
-    let KindRead::Got(k) = of else {
-        return call::refusal(g, image.len(), of.number());
+    let k = match BlockHeaderKind::try_from(kind) {
+        Ok(k) => k,
+        Err(e) => return call::refusal(g, image.len(), e.number()),
     };
     let h = BlockHeader {
         kind: k,
@@ -68,7 +67,7 @@ pub extern "C" fn stumpchoir_is_block_data_empty(
 {
     let g = call::geometry(geometry);
     let a = format::is_block_data_empty(g, image, block);
-    records::hand_flag(a, empty)
+    hand::hand(a, empty)
 }
 
 // Makes a block Undefined and empty; 2 for a known block whose erase count is at its end.
@@ -116,7 +115,7 @@ pub extern "C" fn stumpchoir_scan_block(
 {
     let g = call::geometry(geometry);
     let a = scan::scan_block(g, image, block);
-    records::hand_record(a, record)
+    hand::hand(a, record)
 }
 
 // Programs the type byte; 4 for a kind below 2. Under the strict mark a block that has a type already is 10, but for Undefined, which
@@ -133,9 +132,9 @@ pub extern "C" fn stumpchoir_set_block_type(
     ensures { crossed result units.new image.new ≡ crossing units.old (run (fuse_of fused units.old) (given (geometry_in geometry.now) (block_type_of kind) (λ g t. set_block_type g block t)) image.old) }
 {
     let g = call::geometry(geometry);
-    let of = records::type_of(kind);
-    let BlockTypeRead::Got(t) = of else {
-        return call::refusal(g, image.len(), of.number());
+    let t = match records::type_of(kind) {
+        Ok(t) => t,
+        Err(e) => return call::refusal(g, image.len(), e.number()),
     };
     let f = call::fuse_of(fused, units);
     let a = format::set_block_type(g, image, f, block, t);
@@ -154,5 +153,5 @@ pub extern "C" fn stumpchoir_calculate_freeable_space(
 {
     let g = call::geometry(geometry);
     let a = scan::calculate_freeable_space(g, image, block);
-    call::hand_count(a, space)
+    hand::hand(a, space)
 }

@@ -5,8 +5,7 @@ ghost use Rattle.blocks.specs.Record.{free_space, record_empty, record_numbers, 
 ghost use Rattle.crossing.specs.Crossing.{told, telling, plain, asked, geometry_in};
 ghost use Rattle.crossing.specs.Records.{record_of, flag_number};
 
-use blocks::record::BlockInfoRead;
-use crossing::{call, records};
+use crossing::{call, hand, records};
 
 // What is left of a block; 9 where the used bytes pass the block size.
 #[unsafe(no_mangle)]
@@ -18,12 +17,12 @@ pub extern "C" fn stumpchoir_record_free_space(
     ensures { told result space.new ≡ telling plain space.old (asked (geometry_in geometry.now) (record_of «record».now) (λ g r. free_space g r)) }
 {
     let g = call::geometry(geometry);
-    let of = records::record_of(record);
-    let BlockInfoRead::Got(r) = of else {
-        return call::refusal_alone(g, of.number());
+    let r = match records::record_of(record) {
+        Ok(r) => r,
+        Err(e) => return call::refusal_alone(g, e.number()),
     };
     let a = r.free_space(g);
-    call::hand_count(a, space)
+    hand::hand(a, space)
 }
 
 // Whether nothing but the header is used: 1 or 0.
@@ -36,12 +35,12 @@ pub extern "C" fn stumpchoir_record_is_empty(
     ensures { told result empty.new ≡ telling flag_number empty.old (asked (geometry_in geometry.now) (record_of «record».now) (λ g r. record_empty g r)) }
 {
     let g = call::geometry(geometry);
-    let of = records::record_of(record);
-    let BlockInfoRead::Got(r) = of else {
-        return call::refusal_alone(g, of.number());
+    let r = match records::record_of(record) {
+        Ok(r) => r,
+        Err(e) => return call::refusal_alone(g, e.number()),
     };
     let a = r.is_empty(g);
-    records::hand_flag(a, empty)
+    hand::hand(a, empty)
 }
 
 // Adds an object's size, aligned up; 9 where the sum passes 4294967295.
@@ -54,12 +53,12 @@ pub extern "C" fn stumpchoir_record_add_used_bytes(
     ensures { told result «record».new ≡ telling record_numbers «record».old (asked (geometry_in geometry.now) (record_of «record».old) (λ g r. add_used_bytes g r total_size)) }
 {
     let g = call::geometry(geometry);
-    let of = records::record_of(record);
-    let BlockInfoRead::Got(r) = of else {
-        return call::refusal_alone(g, of.number());
+    let r = match records::record_of(record) {
+        Ok(r) => r,
+        Err(e) => return call::refusal_alone(g, e.number()),
     };
     let a = r.add_used_bytes(g, total_size);
-    records::hand_record(a, record)
+    hand::hand(a, record)
 }
 
 // The record of a block that was just formatted; 9 at the last erase count.
@@ -71,10 +70,10 @@ pub extern "C" fn stumpchoir_record_update_stats_after_erase(
     ensures { told result «record».new ≡ telling record_numbers «record».old (asked (geometry_in geometry.now) (record_of «record».old) (λ g r. update_stats_after_erase g r)) }
 {
     let g = call::geometry(geometry);
-    let of = records::record_of(record);
-    let BlockInfoRead::Got(r) = of else {
-        return call::refusal_alone(g, of.number());
+    let r = match records::record_of(record) {
+        Ok(r) => r,
+        Err(e) => return call::refusal_alone(g, e.number()),
     };
     let a = r.update_stats_after_erase(g);
-    records::hand_record(a, record)
+    hand::hand(a, record)
 }

@@ -3,7 +3,7 @@ ghost use Rattle.std.specs.Prelude.{◌≡◌, length};
 ghost use Rattle.crossing.specs.Crossing.{told, telling_by, two, bytes_out};
 ghost use Rattle.storage.specs.File.{read_file};
 
-use crossing::call;
+use crossing::hand;
 use medium::geometry::Geometry;
 use objects::location::ObjectLocation;
 use storage::file;
@@ -19,5 +19,5 @@ pub(crate) fn read(
     ensures { told result (two buffer.new read.new) ≡ telling_by bytes_out (two buffer.old read.old) (read_file g at position (length buffer.old) image.now) }
 {
     let a = file::read(g, image, at, position as usize, buffer);
-    call::hand_count(a, read)
+    hand::hand(a, read)
 }

@@ -5,25 +5,24 @@ ghost use Rattle.crossing.specs.Crossing.{told, telling, telling_by, two, fittin
 ghost use Rattle.storage.specs.Names.{names_from, next_name};
 ghost use Rattle.cface_storage.specs.Storage.{names_of, names_numbers, name_out};
 
-use crossing::{outs, values};
+use crossing::hand::Crosses;
+use crossing::values;
 use medium::geometry;
 use medium::geometry::Geometry;
-use storage::names::{Names, NextName};
+use storage::names::Names;
 
 fn put_names(n: Names, out: &mut [u32; 2])
     ensures { out.new ≡ names_numbers n }
 {
-    let i = n.place;
-    outs::put_iterator(i, out);
+    *out = n.place.numbers();
 }
 
 // Before the first name. The library tests no geometry there, so 6 is given here.
 pub(crate) fn start(g: Geometry, names: &mut [u32; 2]) -> u8
     ensures { told result names.new ≡ telling names_numbers names.old (fitting g (done (names_from g))) }
 {
-    let bad = geometry::fit(g);
-    if bad != 0 {
-        return bad;
+    if let Err(e) = geometry::fit(g) {
+        return e.number();
     }
     put_names(Names::new(g), names);
     0
@@ -44,19 +43,18 @@ pub(crate) fn next(
     let here = Names {
         place: values::iterator_of(names),
     };
-    let a = here.next(g, image, buffer);
-    match a {
-        NextName::Refused(k) => k,
-        NextName::End => {
+    match here.next(g, image, buffer) {
+        Ok(Some(next)) => {
+            put_names(next.names, names);
+            *found = 1;
+            *location = next.location.numbers();
+            *len = next.length as u64;
+            0
+        }
+        Ok(None) => {
             *found = 0;
             0
         }
-        NextName::Name(n, at, behind) => {
-            put_names(behind, names);
-            *found = 1;
-            outs::put_location(at, location);
-            *len = n as u64;
-            0
-        }
+        Err(e) => e.number(),
     }
 }

@@ -10,7 +10,7 @@ ghost use Rattle.crossing.specs.Crossing.{told, telling, geometry_in, plain, two
 ghost use Rattle.crossing.specs.Values.{location_numbers, located};
 
 use crate::{files, listed};
-use crossing::{call, outs};
+use crossing::{call, hand};
 use objects::location::ObjectLocation;
 use storage::{file, lookup};
 
@@ -28,7 +28,7 @@ pub extern "C" fn stumpchoir_lookup(
 {
     let g = call::geometry(geometry);
     let a = lookup::lookup(g, image, path, hash);
-    outs::hand_location(a, location)
+    hand::hand(a, location)
 }
 
 // How long the file is whose metadata object is at a place: every data object is opened.
@@ -48,7 +48,7 @@ pub extern "C" fn stumpchoir_file_size(
         offset: offset,
     };
     let a = file::size(g, image, at);
-    call::hand_count(a, size)
+    hand::hand(a, size)
 }
 
 // Its bytes from a position on, into the first *read bytes of the buffer; none at or past its end. Once the buffer is full no more is

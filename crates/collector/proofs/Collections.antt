@@ -20,11 +20,9 @@ use Rattle.medium.proofs.Beside.{Misses-event, Skips-event, byte_run, bytes_stay
 use Rattle.medium.proofs.Events.{bind_each}
 use Rattle.medium.proofs.Left.{left, bind_left, asked, tested, ask_events}
 use Rattle.objects.specs.Listing.{Visit, listing}
-use Rattle.collector.specs.declared.sweep.PassKind.{PassKind}
-use Rattle.collector.specs.declared.sweep.PassKind.TheVariants as passes
 use Rattle.collector.specs.Table.{record_at, collectable, field_at}
-use Rattle.collector.specs.Passes.{delete_invalid_objects_in_block, step_of, block_step, sweep, pass, delete_invalid_objects, erase_invalid_finished_blocks, erase_full_finished_blocks, collect}
-use Rattle.collector.specs.Finished.{Allocated, Shows, Reached, Guarded, Formats, RunSpares, RunKeepsBlock}
+use Rattle.collector.specs.Passes.{delete_invalid_objects_in_block, block_step, sweep, pass, delete_invalid_objects, erase_invalid_finished_blocks, erase_full_finished_blocks, collect}
+use Rattle.collector.specs.Finished.{PassKind, DeleteInvalidObjects, EraseInvalidFinishedBlocks, EraseFullFinishedBlocks, step_of, Allocated, Shows, Reached, Guarded, Formats, RunSpares, RunKeepsBlock}
 use Rattle.shown.proofs.Agreeing.{agree_self, agree_on, listing_agree}
 use Rattle.collector.proofs.Untouched.{Outside, finished_apart}
 use Rattle.collector.proofs.Finished.{finished_shows}
@@ -43,14 +41,14 @@ module _ (g : Geometry) (s : Both) (b : ℕ) where
   unfolding collect
   collect_each P first guard others =
       bind_each beside P (delete_invalid_objects g) (λ _. erase_invalid_finished_blocks g >>= λ _. erase_full_finished_blocks g) s first
-      (λ _ e. bind_each beside P (erase_invalid_finished_blocks g) (λ _. erase_full_finished_blocks g) (after g s) (others passes.EraseInvalidFinishedBlocks tt (after g s) (guard e))
-      (λ _ _. others passes.EraseFullFinishedBlocks tt (happen beside (erase_invalid_finished_blocks g (after g s)).events (after g s)) (rw (same (guard e)) (guard e))))
+      (λ _ e. bind_each beside P (erase_invalid_finished_blocks g) (λ _. erase_full_finished_blocks g) (after g s) (others EraseInvalidFinishedBlocks tt (after g s) (guard e))
+      (λ _ _. others EraseFullFinishedBlocks tt (happen beside (erase_invalid_finished_blocks g (after g s)).events (after g s)) (rw (same (guard e)) (guard e))))
     where
       same : Guarded (listing g b (after g s).image) → listing g b (happen beside (erase_invalid_finished_blocks g (after g s)).events (after g s)).image ≡ listing g b (after g s).image
       same h =
           listing_agree g b (after g s).image (happen beside (erase_invalid_finished_blocks g (after g s)).events (after g s)).image
           (agree_on g b 0 g.size (after g s).image (erase_invalid_finished_blocks g (after g s)).events (after g s) (agree_self g b 0 g.size (after g s).image)
-          (λ o _ l. format_pass_misses passes.EraseInvalidFinishedBlocks tt g (after g s) b h o l))
+          (λ o _ l. format_pass_misses EraseInvalidFinishedBlocks tt g (after g s) b h o l))
 
   collect_misses : (o : ℕ) → o < g.size → Outside g o (listing g b s.image).visits → ((delete_invalid_objects g s).answer ≡ done tt → Guarded (listing g b (after g s).image)) → All (Misses-event (address g b o)) (collect g s).events
   collect_misses o l w guard = collect_each (Misses-event (address g b o)) (first_pass_misses g s b o l w) guard (λ k p t h. format_pass_misses k p g t b h o l)
@@ -81,7 +79,7 @@ module _ (g : Geometry) (few : g.s ≤ 3) (word : g.granularity ≡ Bit → ⊥)
           let n = eqb-false c b q in
           rw (listing_agree g b s.image (left (block_step delete_invalid_objects_in_block g c) s).image
           (agree_on g b 0 g.size s.image (block_step delete_invalid_objects_in_block g c s).events s (agree_self g b 0 g.size s.image)
-          (λ o _ l. block_each delete_invalid_objects_in_block g (Misses-event (address g b o)) c s (λ r. step_misses passes.DeleteInvalidObjects g few b o c l n r s)))) (λ _. h)
+          (λ o _ l. block_each delete_invalid_objects_in_block g (Misses-event (address g b o)) c s (λ r. step_misses DeleteInvalidObjects g few b o c l n r s)))) (λ _. h)
 
   sweep_guards : (n c : ℕ) (s : Both) → Guarded (listing g b s.image) → (sweep delete_invalid_objects_in_block n g c s).answer ≡ done tt
       → Guarded (listing g b (left (sweep delete_invalid_objects_in_block n g c) s).image)
@@ -127,5 +125,5 @@ run_keeps_block f g s b n h =
     let guard : (delete_invalid_objects g s).answer ≡ done tt → Guarded (listing g b (after g s).image) = λ _. reached_guards g s b (shows_reached g (listing g b s.image).visits n h) in
     kept_by_lem f (collect g) g b s (λ o l. collect_misses g s b o l (none_outside g o (listing g b s.image).visits n) guard)
     (λ i l. collect_each g s b (Skips-event (field_at b i))
-    (first_pass g s b (Skips-event (field_at b i)) (λ v. Allocated v → ⊥) (λ few c r t m. step_skips passes.DeleteInvalidObjects g few b i c l m r t) (λ _ _ _ k one. absurd (k one)) n)
+    (first_pass g s b (Skips-event (field_at b i)) (λ v. Allocated v → ⊥) (λ few c r t m. step_skips DeleteInvalidObjects g few b i c l m r t) (λ _ _ _ k one. absurd (k one)) n)
     guard (λ k p t q. format_pass_skips k p g t b q i l))

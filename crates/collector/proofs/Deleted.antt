@@ -27,8 +27,7 @@ use Rattle.objects.specs.declared.state.ObjectDataState.TheVariants as data-stat
 use Rattle.objects.specs.declared.state.ObjectState.TheVariants as object-state
 use Rattle.objects.specs.declared.types.ObjectType.{ObjectType}
 use Rattle.objects.specs.declared.header.ObjectHeader.{ObjectHeader}
-use Rattle.objects.specs.declared.header.PayloadSize.{PayloadSize}
-use Rattle.objects.specs.declared.header.PayloadSize.TheVariants.{Set, Unset}
+use Rattle.std.specs.Prelude.{Option, Some, None}
 use Rattle.objects.specs.Types.{rank_of}
 use Rattle.objects.specs.Payload.{payload_at}
 use Rattle.objects.specs.Header.{payload_size_of, marking, step_to, set_state, update_state, set_payload_size}
@@ -77,15 +76,15 @@ delete_zero g h img d one e =
 abbrev pub Repaired : Geometry → ObjectHeader → Bool → List FlashUnit → List ℕ → Type 0
 Repaired g h d us img = ((d ≡ false) × (us ≡ [])) ⊎ ((d ≡ true) × (get_or (apply us img) (mark_address g h) 0 ≡ 0))
 
-repair_by_left : (g : Geometry) (h : ObjectHeader) (n : ℕ) (p : PayloadSize) (img : List ℕ) (d : Bool) → rank_of h.state ≡ 1 → (repair_by g h n p img).answer ≡ done d
+repair_by_left : (g : Geometry) (h : ObjectHeader) (n : ℕ) (p : Option ℕ) (img : List ℕ) (d : Bool) → rank_of h.state ≡ 1 → (repair_by g h n p img).answer ≡ done d
     → Repaired g h d (repair_by g h n p img).events img
 unfolding repair_by ask
-repair_by_left g h n (Set m) img d one e = go (eqb m n) e
+repair_by_left g h n (Some m) img d one e = go (eqb m n) e
   where
     go : (t : Bool) → (pick {A = Op Bool} t (give false) (delete_object g h) img).answer ≡ done d → Repaired g h d (pick {A = Op Bool} t (give false) (delete_object g h) img).events img
     go true q = let z : ◌≡◌ {A = Answer Bool} (done false) (done d) = q in inl ((cc), refl)
     go false q = inr (delete_zero g h img d one q)
-repair_by_left g h n Unset img d one e =
+repair_by_left g h n None img d one e =
     let x = bound (set_payload_size g h n) (λ v. delete_object g v) img d e in
     let s = sized_as g h x.value n img x.first in
     let y = delete_zero g x.value (left (set_payload_size g h n) img) d (rw s one) x.second in

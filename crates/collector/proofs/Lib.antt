@@ -1,5 +1,4 @@
 pub mod Tables
-pub mod Stops
 pub mod Repairs
 pub mod Findings
 pub mod Sweeps

@@ -13,8 +13,7 @@ use Rattle.medium.specs.Marked.{Fresh, FreshBeside, UnderMark, UnderMarkBeside, 
 use Rattle.medium.proofs.Marked.{ask_under, kept_under, test_under, bind_under, pick_under, image_under, fields_under, admit_same}
 use Rattle.objects.specs.declared.state.ObjectState.TheVariants as state
 use Rattle.objects.specs.declared.header.ObjectHeader.{ObjectHeader}
-use Rattle.objects.specs.declared.header.PayloadSize.{PayloadSize}
-use Rattle.objects.specs.declared.header.PayloadSize.TheVariants.{Set, Unset}
+use Rattle.std.specs.Prelude.{Option, Some, None}
 use Rattle.objects.specs.declared.iterator.ObjectIterator.{ObjectIterator}
 use Rattle.objects.specs.Header.{payload_size_of}
 use Rattle.objects.specs.Payload.{payload_at}
@@ -35,10 +34,10 @@ module _ (g : Geometry) (m : ℕ) (v : Beside g m) where
   delete_object_under : (h : ObjectHeader) → UnderMark (delete_object g h) (delete_object (with_strict g m) h)
   delete_object_under h = bind_under flash Fresh _ _ _ _ (update_state_under g m v h state.Deleted) (λ _. kept_under flash Fresh _)
 
-  repair_by_under : (h : ObjectHeader) (n : ℕ) (p : PayloadSize) → UnderMark (repair_by g h n p) (repair_by (with_strict g m) h n p)
+  repair_by_under : (h : ObjectHeader) (n : ℕ) (p : Option ℕ) → UnderMark (repair_by g h n p) (repair_by (with_strict g m) h n p)
   unfolding repair_by
-  repair_by_under h n (Set k) = pick_under flash Fresh (eqb k n) _ _ _ _ (kept_under flash Fresh _) (delete_object_under h)
-  repair_by_under h n Unset = bind_under flash Fresh _ _ _ _ (set_payload_size_under g m v h n) (λ w. delete_object_under w)
+  repair_by_under h n (Some k) = pick_under flash Fresh (eqb k n) _ _ _ _ (kept_under flash Fresh _) (delete_object_under h)
+  repair_by_under h n None = bind_under flash Fresh _ _ _ _ (set_payload_size_under g m v h n) (λ w. delete_object_under w)
 
   repairing_under : (h : ObjectHeader) (used : ℕ) → UnderMark (repairing g h used) (repairing (with_strict g m) h used)
   unfolding repairing

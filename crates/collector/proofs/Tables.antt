@@ -8,7 +8,7 @@ use lib.Dec.{eqb}
 use borrow.Author.Tests.{eq-eqb, ne_eqb, eqb-true}
 use Rattle.medium.specs.declared.geometry.Geometry.{Geometry}
 use Rattle.medium.specs.declared.fuse.Fuse.{Fuse}
-use Rattle.medium.specs.declared.fuse.Stored.TheVariants.{Done}
+use Rattle.std.specs.Prelude.{Ok}
 use Rattle.medium.specs.Granularity.{pick}
 use Rattle.medium.specs.Geometry.{check_of}
 use Rattle.medium.specs.Operation.{Answer, done, refused, number_of, run, ◌>>=◌}
@@ -71,4 +71,4 @@ pub allowing_on : {B : Type 0} (f : Fuse) (b : ℕ) (k : Unit {0} → Pass B) (i
     → run f (allowing b >>= k) (both i t) ≡ run f (k tt) (both i (set t (field_at b allow_mark) 1))
 unfolding allowing
 allowing_on f b k i t =
-    on f (allowing b) k (both i t) (both i (set t (field_at b allow_mark) 1)) (Done f) tt f (sym (run_fields f (record_length * b) allow_mark (1 ∷ []) tt i t)) refl
+    on f (allowing b) k (both i t) (both i (set t (field_at b allow_mark) 1)) (Ok f) tt f (sym (run_fields f (record_length * b) allow_mark (1 ∷ []) tt i t)) refl

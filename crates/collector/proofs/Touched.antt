@@ -25,8 +25,7 @@ use Rattle.objects.specs.declared.state.ObjectState.TheVariants as object-state
 use Rattle.objects.specs.declared.types.ObjectType.{ObjectType}
 use Rattle.objects.specs.declared.location.ObjectLocation.{ObjectLocation}
 use Rattle.objects.specs.declared.header.ObjectHeader.{ObjectHeader}
-use Rattle.objects.specs.declared.header.PayloadSize.{PayloadSize}
-use Rattle.objects.specs.declared.header.PayloadSize.TheVariants.{Set, Unset}
+use Rattle.std.specs.Prelude.{Option, Some, None}
 use Rattle.objects.specs.Numbers.{bytes}
 use Rattle.objects.specs.Types.{rank_of, rank_to}
 use Rattle.objects.specs.Payload.{payload_at}
@@ -96,19 +95,19 @@ module _ (P : FlashUnit → Type 0) (g : Geometry) where
       (λ _ _. bind_each flash P (write g h.location.block (h.location.offset + size_at g.granularity) (bytes g.s n)) (λ _. give (with_size h n)) _
       (k.size n _) (λ _ _. ask_each flash P _ _))
 
-  repair_by_units : (h : ObjectHeader) (n : ℕ) (p : PayloadSize) (img : List ℕ) → Marks P g h.location → (p ≡ Unset → Sizes P g h.location)
+  repair_by_units : (h : ObjectHeader) (n : ℕ) (p : Option ℕ) (img : List ℕ) → Marks P g h.location → (p ≡ None → Sizes P g h.location)
       → All P (repair_by g h n p img).events
   unfolding repair_by
-  repair_by_units h n (Set m) img k z = go (eqb m n)
+  repair_by_units h n (Some m) img k z = go (eqb m n)
     where
       go : (t : Bool) → All P (pick {A = Op Bool} t (give false) (delete_object g h) img).events
       go true = ask_each flash P _ img
       go false = delete_units_lem h img k
-  repair_by_units h n Unset img k z =
+  repair_by_units h n None img k z =
       bind_each flash P (set_payload_size g h n) (λ v. delete_object g v) img (size_units_lem h n img (z refl))
       (λ v e. delete_units_lem v _ (rw (sized_as g h v n img e) k))
 
-  repair_units : (h : ObjectHeader) (used : ℕ) (img : List ℕ) → Marks P g h.location → (payload_size_of g.s h ≡ Unset → Sizes P g h.location)
+  repair_units : (h : ObjectHeader) (used : ℕ) (img : List ℕ) → Marks P g h.location → (payload_size_of g.s h ≡ None → Sizes P g h.location)
       → All P (repairing g h used img).events
   unfolding repairing
   repair_units h used img k z =
@@ -120,7 +119,7 @@ module _ (P : FlashUnit → Type 0) (g : Geometry) where
 
 pub record Visited (P : Event → Type 0) (g : Geometry) (b : ℕ) (h : ObjectHeader) : Type 0 where
   pub marks : Marks (λ u. P (unit u)) g h.location
-  pub sizes : payload_size_of g.s h ≡ Unset → Sizes (λ u. P (unit u)) g h.location
+  pub sizes : payload_size_of g.s h ≡ None → Sizes (λ u. P (unit u)) g h.location
   pub allows : P (field (field_at b allow_mark) 1)
 
 module _ (P : Event → Type 0) (g : Geometry) (b : ℕ) where

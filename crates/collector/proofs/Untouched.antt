@@ -24,7 +24,7 @@ use Rattle.medium.proofs.Events.{bind_each, ask_each, asked_each}
 use Rattle.objects.proofs.Numbers.{length_bytes}
 use Rattle.objects.specs.declared.location.ObjectLocation.{ObjectLocation}
 use Rattle.objects.specs.declared.header.ObjectHeader.{ObjectHeader}
-use Rattle.objects.specs.declared.header.PayloadSize.TheVariants.{Set, Unset}
+use Rattle.std.specs.Prelude.{Some, None}
 use Rattle.objects.specs.declared.iterator.ObjectIterator.{ObjectIterator}
 use Rattle.objects.specs.Numbers.{bytes, unset_of}
 use Rattle.objects.specs.Types.{rank_of}
@@ -61,11 +61,11 @@ header_avoids g few o v k =
       (λ _. inner v.offset (header g.granularity g.s) (size_at g.granularity) (align_of (width_of g.granularity) g.s) o l.size_header k),
     )
 
-unset_is : (s : ℕ) (h : ObjectHeader) → payload_size_of s h ≡ Unset → h.size ≡ unset_of s
+unset_is : (s : ℕ) (h : ObjectHeader) → payload_size_of s h ≡ None → h.size ≡ unset_of s
 unfolding payload_size_of
 unset_is s h e = go (eqb h.size (unset_of s)) refl e
   where
-    go : (t : Bool) → eqb h.size (unset_of s) ≡ t → pick t Unset (Set h.size) ≡ Unset → h.size ≡ unset_of s
+    go : (t : Bool) → eqb h.size (unset_of s) ≡ t → pick t None (Some h.size) ≡ None → h.size ≡ unset_of s
     go true q p = eqb-true _ _ q
     go false q p = let z : ◌≡◌ {A = ℕ} 0 1 = cc in absurd (omega arith)
 

@@ -25,12 +25,10 @@ use Rattle.objects.specs.declared.header.ObjectHeader.{ObjectHeader}
 use Rattle.objects.specs.Types.{rank_of}
 use Rattle.objects.specs.Listing.{Visit, listing}
 use Rattle.blocks.specs.declared.record.BlockInfo.{BlockInfo}
-use Rattle.collector.specs.declared.sweep.PassKind.{PassKind}
-use Rattle.collector.specs.declared.sweep.PassKind.TheVariants as passes
 use Rattle.collector.specs.Table.{Pass, record_length, field_at, record_at, collectable}
-use Rattle.collector.specs.Passes.{Step, step_of, block_step, sweep, pass, delete_invalid_objects}
+use Rattle.collector.specs.Passes.{Step, block_step, sweep, pass, delete_invalid_objects}
 use Rattle.collector.proofs.Tables.{collect_checked}
-use Rattle.collector.specs.Finished.{Allocated, Guarded, BlockKept, Programs, PassSpares, Formats, PassKeepsBlock, FirstNeverErases}
+use Rattle.collector.specs.Finished.{PassKind, DeleteInvalidObjects, EraseInvalidFinishedBlocks, EraseFullFinishedBlocks, step_of, Allocated, Guarded, BlockKept, Programs, PassSpares, Formats, PassKeepsBlock, FirstNeverErases}
 use Rattle.shown.proofs.Agreeing.{Agree, zero_of, short_size, agree_self, agree_on, listing_agree}
 use Rattle.collector.proofs.Touched.{Visited, Own, own_visited, invalid-each, full-each}
 use Rattle.collector.proofs.Untouched.{visit_of, Avoids, avoids_visited, first_each, Outside, finished_apart}
@@ -42,14 +40,14 @@ every_none : (vs : List Visit) → All (λ _. Unit {0}) vs
 every_none [] = tt
 every_none (v ∷ vs) = (tt, every_none vs)
 
-first_own : (g : Geometry) → g.s ≤ 3 → (P : Event → Type 0) (c : ℕ) → Own P g c → (r : BlockInfo) (s : Both) → All P (step_of passes.DeleteInvalidObjects g c r s).events
+first_own : (g : Geometry) → g.s ≤ 3 → (P : Event → Type 0) (c : ℕ) → Own P g c → (r : BlockInfo) (s : Both) → All P (step_of DeleteInvalidObjects g c r s).events
 first_own g few P c own r s = first_each g few c P (λ _. Unit {0}) (λ h e _ _. own_visited P g c own h e) r s (every_none (listing g c s.image).visits)
 
 own_each : (k : PassKind) (g : Geometry) → g.s ≤ 3 → (P : Event → Type 0) (c : ℕ) → Own P g c → ((img : List ℕ) → All (λ u. P (unit u)) (erase g c img).events)
     → (r : BlockInfo) (s : Both) → All P (step_of k g c r s).events
-own_each passes.DeleteInvalidObjects g few P c own erases r s = first_own g few P c own r s
-own_each passes.EraseInvalidFinishedBlocks g few P c own erases r s = invalid-each P g c own erases r s
-own_each passes.EraseFullFinishedBlocks g few P c own erases r s = full-each P g c own erases r s
+own_each DeleteInvalidObjects g few P c own erases r s = first_own g few P c own r s
+own_each EraseInvalidFinishedBlocks g few P c own erases r s = invalid-each P g c own erases r s
+own_each EraseFullFinishedBlocks g few P c own erases r s = full-each P g c own erases r s
 
 -- so a step on another block misses every byte of this one
 pub step_misses : (k : PassKind) (g : Geometry) → g.s ≤ 3 → (b o c : ℕ) → o < g.size → (c ≡ b → ⊥) → (r : BlockInfo) (s : Both) → All (Misses-event (address g b o)) (step_of k g c r s).events
@@ -136,27 +134,27 @@ kept_by_lem f p g b s m k =
 module _ (g : Geometry) (s : Both) (b : ℕ) where
   -- where each visit that the listing shows is so that the events of its repair have the property
   pub first_pass : (P : Event → Type 0) (W : Visit → Type 0)
-      → (g.s ≤ 3 → (c : ℕ) (r : BlockInfo) (t : Both) → (c ≡ b → ⊥) → All P (step_of passes.DeleteInvalidObjects g c r t).events)
+      → (g.s ≤ 3 → (c : ℕ) (r : BlockInfo) (t : Both) → (c ≡ b → ⊥) → All P (step_of DeleteInvalidObjects g c r t).events)
       → (g.s ≤ 3 → (h : ObjectHeader) → h.location.block ≡ b → W (visit_of h) → rank_of h.state ≡ 1 → Visited P g b h)
       → All W (listing g b s.image).visits → All P (delete_invalid_objects g s).events
   first_pass P W others ok w =
-      pass_each (step_of passes.DeleteInvalidObjects) g P s
-      (λ few. sweep_each passes.DeleteInvalidObjects g few P b s.image (others few)
+      pass_each (step_of DeleteInvalidObjects) g P s
+      (λ few. sweep_each DeleteInvalidObjects g few P b s.image (others few)
       (λ r t v. first_each g few b P W (ok few) r t (rw (listing_agree g b s.image t.image v) w))
       g.count 0 s (agree_self g b 0 g.size s.image))
 
   pub first_pass_misses : (o : ℕ) → o < g.size → Outside g o (listing g b s.image).visits → All (Misses-event (address g b o)) (delete_invalid_objects g s).events
   first_pass_misses o l w =
-      first_pass (Misses-event (address g b o)) (λ v. Allocated v → Avoids g o v) (λ few c r t n. step_misses passes.DeleteInvalidObjects g few b o c l n r t)
+      first_pass (Misses-event (address g b o)) (λ v. Allocated v → Avoids g o v) (λ few c r t n. step_misses DeleteInvalidObjects g few b o c l n r t)
       (λ few h e k one. avoids_visited g few b o h e (k one)) w
 
 -- ---- the second and the third
 
 -- nothing is stored in a block that is guarded
 guarded_each : (k : PassKind) → Formats k → (g : Geometry) (P : Event → Type 0) (b : ℕ) (r : BlockInfo) (s : Both) → Guarded (listing g b s.image) → All P (step_of k g b r s).events
-guarded_each passes.DeleteInvalidObjects p g P b r s h = absurd p
-guarded_each passes.EraseInvalidFinishedBlocks p g P b r s h = rw (invalid_spares g b r s h) tt
-guarded_each passes.EraseFullFinishedBlocks p g P b r s h = rw (full_spares g b r s h) tt
+guarded_each DeleteInvalidObjects p g P b r s h = absurd p
+guarded_each EraseInvalidFinishedBlocks p g P b r s h = rw (invalid_spares g b r s h) tt
+guarded_each EraseFullFinishedBlocks p g P b r s h = rw (full_spares g b r s h) tt
 
 module _ (k : PassKind) (p : Formats k) (g : Geometry) (s : Both) (b : ℕ) (h : Guarded (listing g b s.image)) where
   format_pass : (P : Event → Type 0) → (g.s ≤ 3 → (c : ℕ) (r : BlockInfo) (t : Both) → (c ≡ b → ⊥) → All P (step_of k g c r t).events) → All P (pass (step_of k) g s).events
@@ -186,14 +184,14 @@ pass_spares k f g s b o l h = byte_run f (pass (step_of k) g) s (address g b o) 
     shown = inl (finished_shows g o (listing g b s.image).visits h)
 
     go : (k : PassKind) → All (Misses-event (address g b o)) (pass (step_of k) g s).events
-    go passes.DeleteInvalidObjects = first_pass_misses g s b o l (finished_apart g b o s.image h)
-    go passes.EraseInvalidFinishedBlocks = format_pass_misses passes.EraseInvalidFinishedBlocks tt g s b shown o l
-    go passes.EraseFullFinishedBlocks = format_pass_misses passes.EraseFullFinishedBlocks tt g s b shown o l
+    go DeleteInvalidObjects = first_pass_misses g s b o l (finished_apart g b o s.image h)
+    go EraseInvalidFinishedBlocks = format_pass_misses EraseInvalidFinishedBlocks tt g s b shown o l
+    go EraseFullFinishedBlocks = format_pass_misses EraseFullFinishedBlocks tt g s b shown o l
 
 pub first_never_erases : FirstNeverErases
 unfolding FirstNeverErases
 first_never_erases g s =
-    pass_each (step_of passes.DeleteInvalidObjects) g Programs s
-    (λ few. sweep_from (step_of passes.DeleteInvalidObjects) g Programs 0
+    pass_each (step_of DeleteInvalidObjects) g Programs s
+    (λ few. sweep_from (step_of DeleteInvalidObjects) g Programs 0
     (λ c r t _. first_own g few Programs c (record { writes = λ o bs img. write_each (λ u. Programs (unit u)) (λ _ _. tt) g c o bs img; words = λ _ _ _. tt }) r t)
     g.count 0 s (omega arith))

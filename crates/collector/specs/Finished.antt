@@ -14,10 +14,8 @@ use Rattle.objects.specs.Numbers.{unset_of}
 use Rattle.objects.specs.Types.{rank_of}
 use Rattle.objects.specs.Info.{span_of}
 use Rattle.objects.specs.Listing.{Visit, Stop, end, free, broken, Listing, listing}
-use Rattle.collector.specs.declared.sweep.PassKind.{PassKind}
-use Rattle.collector.specs.declared.sweep.PassKind.TheVariants as passes
 use Rattle.collector.specs.Table.{record_length, word_at}
-use Rattle.collector.specs.Passes.{step_of, pass, delete_invalid_objects, collect}
+use Rattle.collector.specs.Passes.{delete_invalid_objects_in_block, erase_invalid_finished_block, erase_full_finished_block, Step, pass, delete_invalid_objects, collect}
 
 -- ---- what a listing shows
 
@@ -73,6 +71,17 @@ Programs (field i v) = Unit {0}
 
 -- ---- one pass, at any fuse and in every end
 
+-- the three by name, and what each does to a block
+pub data PassKind : Type 0 where
+  DeleteInvalidObjects : PassKind
+  EraseInvalidFinishedBlocks : PassKind
+  EraseFullFinishedBlocks : PassKind
+
+abbrev pub step_of : PassKind → Step
+step_of DeleteInvalidObjects = delete_invalid_objects_in_block
+step_of EraseInvalidFinishedBlocks = erase_invalid_finished_block
+step_of EraseFullFinishedBlocks = erase_full_finished_block
+
 -- no pass changes a byte of a finished object that is shown
 unfoldable pub PassSpares : Type 0
 PassSpares =
@@ -81,9 +90,9 @@ PassSpares =
 
 -- the passes that format
 abbrev pub Formats : PassKind → Type 0
-Formats passes.DeleteInvalidObjects = ⊥
-Formats passes.EraseInvalidFinishedBlocks = Unit {0}
-Formats passes.EraseFullFinishedBlocks = Unit {0}
+Formats DeleteInvalidObjects = ⊥
+Formats EraseInvalidFinishedBlocks = Unit {0}
+Formats EraseFullFinishedBlocks = Unit {0}
 
 -- they leave the whole of a block in which a finished object is shown, and of one whose listing breaks off
 unfoldable pub PassKeepsBlock : Type 0

@@ -1,17 +1,12 @@
 -- The three passes of a collection, each over blocks from 0 up. "The third pass raises [the erase count] even for an Undefined, empty
 -- block, where `format_block` stores nothing."
-use Rattle.std.specs.Prelude.{ℕ, zero, suc, ◌+◌, ◌-◌, List, [], ◌∷◌, Bool, true, false, length, leb, ltb, eqb}
+use Rattle.std.specs.Prelude.{ℕ, zero, suc, ◌+◌, ◌-◌, List, [], ◌∷◌, Bool, true, false, Option, Some, None, length, leb, ltb, eqb}
 use Rattle.medium.specs.declared.geometry.Geometry.{Geometry}
-use Rattle.medium.specs.declared.fuse.Fuse.{Fuse}
-use Rattle.medium.specs.declared.fuse.Stored.{Stored}
-use Rattle.medium.specs.declared.fuse.Stored.TheVariants as stored
 use Rattle.medium.specs.Granularity.{pick, header}
 use Rattle.medium.specs.Operation.{Answer, done, refused, Op, ◌>>=◌, ◌>>◌, ask, give, refuse, test}
 use Rattle.medium.specs.Beside.{on_image}
 use Rattle.objects.specs.declared.state.ObjectState.TheVariants as state
 use Rattle.objects.specs.declared.header.ObjectHeader.{ObjectHeader}
-use Rattle.objects.specs.declared.header.PayloadSize.{PayloadSize}
-use Rattle.objects.specs.declared.header.PayloadSize.TheVariants.{Set, Unset}
 use Rattle.objects.specs.declared.iterator.ObjectIterator.{ObjectIterator}
 use Rattle.objects.specs.Types.{rank_of}
 use Rattle.objects.specs.Header.{payload_size_of, set_payload_size, update_state}
@@ -23,16 +18,7 @@ use Rattle.blocks.specs.declared.record.BlockInfo.{BlockInfo}
 use Rattle.blocks.specs.Format.{Planned, plan_at, format_block}
 use Rattle.blocks.specs.Record.{erased_record}
 use Rattle.blocks.specs.Scan.{unless_broken, is_allocated}
-use Rattle.collector.specs.declared.erasing.Finding.{Finding}
-use Rattle.collector.specs.declared.erasing.Finding.TheVariants as finding
-use Rattle.collector.specs.declared.sweep.PassKind.{PassKind}
-use Rattle.collector.specs.declared.sweep.PassKind.TheVariants as passes
 use Rattle.collector.specs.Table.{Pass, record_at, storing, allowing, collectable}
-
--- an answer that stores nothing, beside the fuse as it was
-abbrev pub unstored : Answer (Unit {0}) → Fuse → Stored
-unstored (done _) f = stored.Done f
-unstored (refused n) f = stored.Refused n f
 
 -- ---- the first pass: an unfinished object gets its size from the used bytes and is deleted, or is left where its size says the same
 
@@ -42,9 +28,9 @@ delete_object g h = do
   give true
 
 -- n is the payload that the used bytes leave for it
-unfoldable pub repair_by : Geometry → ObjectHeader → ℕ → PayloadSize → Op Bool
-repair_by g h n (Set m) = pick (eqb m n) (give false) (delete_object g h)
-repair_by g h n Unset = do
+unfoldable pub repair_by : Geometry → ObjectHeader → ℕ → Option ℕ → Op Bool
+repair_by g h n (Some m) = pick (eqb m n) (give false) (delete_object g h)
+repair_by g h n None = do
   v ← set_payload_size g h n
   delete_object g v
 
@@ -118,17 +104,6 @@ unfoldable pub erasing : Geometry → ℕ → BlockInfo → Bool → Pass (Unit 
 erasing g b r false = give tt
 erasing g b r true = erasing_by g b r r.header.kind
 
--- ---- what a look at a block finds: erase it, keep it, or a refusal
-
-abbrev pub finding_answer : Finding → Answer Bool
-finding_answer finding.Erase = done true
-finding_answer finding.Keep = done false
-finding_answer (finding.Refused n) = refused n
-
-abbrev pub acting : Geometry → ℕ → BlockInfo → Answer Bool → Pass (Unit {0})
-acting g b r (done d) = erasing g b r d
-acting g b r (refused n) = refuse n
-
 -- ---- the second pass: no allocation there, and the first object that is not Deleted is an Allocated one, with nothing behind it
 
 -- behind the Allocated object
@@ -176,11 +151,6 @@ erase_full_finished_block g b r =
 
 abbrev pub Step : Type 0
 Step = Geometry → ℕ → BlockInfo → Pass (Unit {0})
-
-abbrev pub step_of : PassKind → Step
-step_of passes.DeleteInvalidObjects = delete_invalid_objects_in_block
-step_of passes.EraseInvalidFinishedBlocks = erase_invalid_finished_block
-step_of passes.EraseFullFinishedBlocks = erase_full_finished_block
 
 unfoldable pub block_step : Step → Geometry → ℕ → Pass (Unit {0})
 block_step step g b = do

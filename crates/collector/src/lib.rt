@@ -22,7 +22,9 @@ ghost use Rattle.medium.specs.Operation.{ended};
 ghost use Rattle.medium.specs.Beside.{both};
 ghost use Rattle.collector.specs.Passes.{delete_invalid_objects, erase_invalid_finished_blocks, erase_full_finished_blocks, collect};
 
-use crate::sweep::PassKind;
+use crate::delete_invalid_objects_in_block::DeleteInvalidObjects;
+use crate::erase_full_finished_block::EraseFullFinishedBlocks;
+use crate::erase_invalid_finished_block::EraseInvalidFinishedBlocks;
 use medium::fuse::{Fuse, Stored};
 use medium::geometry::Geometry;
 
@@ -30,7 +32,7 @@ use medium::geometry::Geometry;
 pub fn delete_invalid_objects(g: Geometry, image: &mut [u8], table: &mut [u32], f: Fuse) -> Stored
     ensures { ended result (both image.new table.new) ≡ Rattle.medium.specs.Operation.run f (delete_invalid_objects g) (both image.old table.old) }
 {
-    sweep::sweep(PassKind::DeleteInvalidObjects, g, image, table, f)
+    sweep::sweep(DeleteInvalidObjects, g, image, table, f)
 }
 
 // Formats blocks in which nothing can be allocated and an unfinished object is all that is not deleted.
@@ -42,7 +44,7 @@ pub fn erase_invalid_finished_blocks(
 ) -> Stored
     ensures { ended result (both image.new table.new) ≡ Rattle.medium.specs.Operation.run f (erase_invalid_finished_blocks g) (both image.old table.old) }
 {
-    sweep::sweep(PassKind::EraseInvalidFinishedBlocks, g, image, table, f)
+    sweep::sweep(EraseInvalidFinishedBlocks, g, image, table, f)
 }
 
 // Formats blocks in which all objects are deleted.
@@ -54,20 +56,14 @@ pub fn erase_full_finished_blocks(
 ) -> Stored
     ensures { ended result (both image.new table.new) ≡ Rattle.medium.specs.Operation.run f (erase_full_finished_blocks g) (both image.old table.old) }
 {
-    sweep::sweep(PassKind::EraseFullFinishedBlocks, g, image, table, f)
+    sweep::sweep(EraseFullFinishedBlocks, g, image, table, f)
 }
 
 // A collection: the three passes in order.
 pub fn run(g: Geometry, image: &mut [u8], table: &mut [u32], f: Fuse) -> Stored
     ensures { ended result (both image.new table.new) ≡ Rattle.medium.specs.Operation.run f (collect g) (both image.old table.old) }
 {
-    let first = delete_invalid_objects(g, image, table, f);
-    let Stored::Done(left) = first else {
-        return first;
-    };
-    let second = erase_invalid_finished_blocks(g, image, table, left);
-    let Stored::Done(rest) = second else {
-        return second;
-    };
+    let left = delete_invalid_objects(g, image, table, f)?;
+    let rest = erase_invalid_finished_blocks(g, image, table, left)?;
     erase_full_finished_blocks(g, image, table, rest)
 }

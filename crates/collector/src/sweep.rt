@@ -4,74 +4,48 @@ ghost use Rattle.medium.specs.Geometry.{check_of};
 ghost use Rattle.medium.specs.Operation.{run, ended};
 ghost use Rattle.medium.specs.Beside.{both};
 ghost use Rattle.collector.specs.Table.{HasRecord};
-ghost use Rattle.collector.specs.Passes.{step_of, block_step, pass};
+ghost use Rattle.collector.specs.Passes.{Step, pass};
 
-use crate::{
-    delete_invalid_objects_in_block, erase_full_finished_block, erase_invalid_finished_block, table,
-};
-use blocks::record::BlockInfoRead;
+use crate::table;
+use blocks::record::BlockInfo;
 use medium::fuse::{Fuse, Stored};
 use medium::geometry::Geometry;
 
-#[derive(Clone, Copy)]
-pub(crate) enum PassKind {
-    DeleteInvalidObjects,
-    EraseInvalidFinishedBlocks,
-    EraseFullFinishedBlocks,
+// One of the three passes. That the table has the block's record and that the geometry fits the image stand as conditions: a type that held both
+// would hold two lent slices, and have to say in each contract that it still does.
+pub(crate) trait Pass: Copy {
+    // What it does to a block, as in the definitions.
+    ghost step: { Step };
+
+    // The same in code; info is the block's record.
+    fn step(
+        self,
+        g: Geometry,
+        image: &mut [u8],
+        table: &mut [u32],
+        f: Fuse,
+        b: u32,
+        info: BlockInfo,
+    ) -> Stored
+        requires has_record { HasRecord table.old b }
+        requires image_value { check_of g (length image.old) ≡ 0 }
+        ensures { ended result (both image.new table.new) ≡ run f (step g b info) (both image.old table.old) };
 }
 
-fn block_step(
-    p: PassKind,
-    g: Geometry,
-    image: &mut [u8],
-    table: &mut [u32],
-    f: Fuse,
-    b: u32,
-) -> Stored
-    requires has_record { HasRecord table.old b }
-    requires image_value { check_of g (length image.old) ≡ 0 }
-    ensures { ended result (both image.new table.new) ≡ run f (block_step (step_of p) g b) (both image.old table.old) }
-{
-    let got = table::record_at(table, b);
-    let BlockInfoRead::Got(info) = got else {
-        return Stored::Refused(got.number(), f);
-    };
-    match p {
-        PassKind::DeleteInvalidObjects =>
-            delete_invalid_objects_in_block::delete_invalid_objects_in_block(
-                g, image, table, f, b, info,
-            ),
-        PassKind::EraseInvalidFinishedBlocks =>
-            erase_invalid_finished_block::erase_invalid_finished_block(g, image, table, f, b, info),
-        PassKind::EraseFullFinishedBlocks => erase_full_finished_block::erase_full_finished_block(
-            g, image, table, f, b, info,
-        ),
-    }
-}
-
-pub(crate) fn sweep(
-    p: PassKind,
+pub(crate) fn sweep<P: Pass>(
+    p: P,
     g: Geometry,
     image: &mut [u8],
     table: &mut [u32],
     f: Fuse,
 ) -> Stored
-    ensures { ended result (both image.new table.new) ≡ run f (pass (step_of p) g) (both image.old table.old) }
+    ensures { ended result (both image.new table.new) ≡ run f (pass P.step g) (both image.old table.old) }
 {
-    let bad = table::check(g, image.len(), table);
-    if bad != 0 {
-        return Stored::Refused(bad, f);
-    }
-    let n = g.count;
+    f.beside(table::check(g, image.len(), table))?;
     let mut fuse = f;
-    let mut b = 0;
-    while b < n {
-        let a = block_step(p, g, image, table, fuse, b);
-        let Stored::Done(left) = a else {
-            return a;
-        };
-        fuse = left;
-        b += 1;
+    for b in 0..g.count {
+        let info = fuse.beside(table::record_at(table, b))?;
+        fuse = p.step(g, image, table, fuse, b, info)?;
     }
-    Stored::Done(fuse)
+    Ok(fuse)
 }

@@ -1,11 +1,12 @@
-// The collector's table: a record of numbers a block, taken out and put back whole.
+// The collector's table: a record of numbers a block, taken out and put back whole. C lends it, as numbers in a row.
 ghost use Rattle.std.specs.Prelude.{◌≡◌, ◌*◌, ◌<◌, length, set};
+ghost use Rattle.medium.specs.Refusal.{answer_of, code_of};
 ghost use Rattle.medium.specs.Operation.{number_of};
-ghost use Rattle.blocks.specs.Record.{info_answer};
 ghost use Rattle.collector.specs.Table.{record_length, allow_mark, field_at, HasRecord, record_at, put_record, possible_from, collectable};
 
-use blocks::record::{BlockInfo, BlockInfoRead};
+use blocks::record::BlockInfo;
 use medium::geometry::Geometry;
+use medium::refusal::Refusal;
 
 // The words of a record, in their order, and how many there are.
 const KIND: usize = 0;
@@ -26,9 +27,10 @@ fn field_at(b: u32, i: usize) -> usize
     RECORD_LENGTH * (b as usize) + i
 }
 
-pub(crate) fn record_at(table: &[u32], b: u32) -> BlockInfoRead
+#[tactic(auto, unfolding(crate::specs::Table::record_at))]
+pub(crate) fn record_at(table: &[u32], b: u32) -> Result<BlockInfo, Refusal>
     requires { HasRecord table.now b }
-    ensures { info_answer result ≡ record_at table.now b }
+    ensures { answer_of result ≡ record_at table.now b }
 {
     let kind = table[field_at(b, KIND)];
     let count = table[field_at(b, ERASE_COUNT)];
@@ -41,10 +43,8 @@ pub(crate) fn put(table: &mut [u32], b: u32, r: BlockInfo)
     requires { HasRecord table.old b }
     ensures { table.new ≡ put_record table.old b r }
 {
-    let header = r.header;
-    let kind = header.kind;
-    table[field_at(b, KIND)] = kind.number();
-    table[field_at(b, ERASE_COUNT)] = header.erase_count;
+    table[field_at(b, KIND)] = u32::from(r.header.kind);
+    table[field_at(b, ERASE_COUNT)] = r.header.erase_count;
     table[field_at(b, USED_BYTES)] = r.used_bytes;
     table[field_at(b, ALLOW_MARK)] = r.mark();
 }
@@ -57,32 +57,24 @@ pub(crate) fn allow(table: &mut [u32], b: u32)
     table[field_at(b, ALLOW_MARK)] = 1;
 }
 
-// 0, or 4 where a record has an impossible value.
-fn possible(table: &[u32], count: u32) -> u8
+// 4 where a record has an impossible value.
+fn possible(table: &[u32], count: u32) -> Result<(), Refusal>
     requires { record_length * count ≡ length table.now }
-    ensures { result ≡ number_of (possible_from count table.now 0) }
+    ensures { code_of result ≡ number_of (possible_from count table.now 0) }
 {
-    let mut b = 0;
-    while b < count {
-        let got = record_at(table, b);
-        let BlockInfoRead::Got(_) = got else {
-            return got.number();
-        };
-        b += 1;
+    for b in 0..count {
+        record_at(table, b)?;
     }
-    0
+    Ok(())
 }
 
 // What is tested before any step: 6, 7 for the image, 7 for the table, 4 for an impossible value.
-pub(crate) fn check(g: Geometry, room: usize, table: &[u32]) -> u8
-    ensures { result ≡ collectable g room table.now }
+pub(crate) fn check(g: Geometry, room: usize, table: &[u32]) -> Result<(), Refusal>
+    ensures { code_of result ≡ collectable g room table.now }
 {
-    let bad = medium::geometry::check(g, room);
-    if bad != 0 {
-        return bad;
-    }
+    medium::geometry::check(g, room)?;
     if RECORD_LENGTH * (g.count as usize) != table.len() {
-        return 7;
+        return Err(Refusal::BadRoom);
     }
     possible(table, g.count)
 }

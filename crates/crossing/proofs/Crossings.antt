@@ -6,20 +6,26 @@ use Prim.Native.Nat.{ℕ}
 use lib.ListN.{length}
 use Rattle.medium.specs.declared.geometry.Geometry.{Geometry}
 use Rattle.medium.specs.declared.fuse.Fuse.{Fuse}
-use Rattle.medium.specs.declared.fuse.Stored.{Stored}
-use Rattle.medium.specs.declared.fuse.Stored.TheVariants.{Done, Refused}
-use Rattle.medium.specs.declared.fuse.Answered.{Answered}
-use Rattle.medium.specs.declared.fuse.Answered.TheVariants as heard
+use Rattle.medium.specs.declared.fuse.Stopped.{Stopped}
+use Rattle.medium.specs.declared.refusal.Refusal.{Refusal}
+use Rattle.std.specs.Prelude.{Result, Ok, Err}
+use Rattle.std.specs.Result.{result_unwrap_or}
 use Rattle.medium.specs.Granularity.{pick}
 use Rattle.medium.specs.Geometry.{admit, fit_of, geometry_of, geometry_ok}
-use Rattle.medium.specs.Fuse.{stored_number, answered_number}
-use Rattle.medium.specs.Operation.{Op, EndIn, Answer, done, refused, run, ended_by, answered, unless_done, unless_stored}
+use Rattle.medium.specs.Refusal.{refusal_number, answer_of, code_of}
+use Rattle.medium.specs.Fuse.{Stored, stored_number}
+use Rattle.medium.specs.Operation.{Op, EndIn, Answer, done, refused, run, ended_by, ended_with, answered, unless_done, unless_stored}
 use Rattle.medium.proofs.Runs.{ask_on, ask_stop}
 use Rattle.medium.proofs.Checks.{picked}
 use Rattle.objects.proofs.Answers.{gate_on, gate_stop}
-use Rattle.crossing.specs.Crossing.{geometry_in, behind, admit_alone, fitting, asked_behind, given, fuse_of, crossed, crossing, units_left, units_after, crossed_with, crossing_with, Telling, told, telling_by}
+use Rattle.crossing.specs.Crossing.{no_geometry, or_none, geometry_in, behind, admit_alone, fitting, asked_behind, given, fuse_of, crossed, crossing, units_left, units_after, left_of, value_of, crossed_with, crossing_with, Telling, told, telling_by}
 
 -- ---- the geometry
+
+-- what numbers say, or none
+pub or_none_of : (r : Result Geometry Refusal) → result_unwrap_or r no_geometry ≡ or_none (answer_of r)
+or_none_of (Ok g) = refl
+or_none_of (Err e) = refl
 
 -- numbers that say a geometry
 pub says : (ns : List ℕ) (g : Geometry) → geometry_of ns ≡ done g → geometry_in ns ≡ g
@@ -64,8 +70,8 @@ units_same false u = refl
 module _ {S A : Type 0} (e : EndIn S A) (u : ℕ) where
   pub stored : (r : Stored) (x : A) (after : S) (n v : ℕ) → ended_by r x after ≡ e → n ≡ stored_number r → v ≡ units_after r u → crossed n v after ≡ crossing u e
   unfolding crossing units_after
-  stored (Done f) x after n v h en ev = rw (← h, en, ev)
-  stored (Refused m f) x after n v h en ev = rw (← h, en, ev)
+  stored (Ok f) x after n v h en ev = rw (← h, en, ev)
+  stored (Err z) x after n v h en ev = rw (← h, en, ev)
 
   stopped : (fused : Bool) (n : ℕ) (s : S) → e ≡ record { answer = refused n; fuse = fuse_of fused u; state = s } → crossed n u s ≡ crossing u e
   unfolding crossing
@@ -76,8 +82,14 @@ module _ {S A B : Type 0} (e : EndIn S A) (k : A → B) (u : ℕ) (b : B) where
   pub stored_with : (r : Stored) (x : A) (after : S) (n v : ℕ) (w : B) → ended_by r x after ≡ e → n ≡ stored_number r → v ≡ units_after r u → w ≡ unless_stored r b (k x)
       → crossed_with n v after w ≡ crossing_with k u b e
   unfolding crossing_with units_after
-  stored_with (Done f) x after n v w h en ev ew = rw (← h, en, ev, ew)
-  stored_with (Refused m f) x after n v w h en ev ew = rw (← h, en, ev, ew)
+  stored_with (Ok f) x after n v w h en ev ew = rw (← h, en, ev, ew)
+  stored_with (Err z) x after n v w h en ev ew = rw (← h, en, ev, ew)
+
+  pub handed_with : (r : Result (A × Fuse) Stopped) (after : S) (n v : ℕ) (w : B) → ended_with r after ≡ e → n ≡ stored_number (left_of r) → v ≡ units_after (left_of r) u
+      → w ≡ value_of k b r → crossed_with n v after w ≡ crossing_with k u b e
+  unfolding crossing_with units_after
+  handed_with (Ok x) after n v w h en ev ew = rw (← h, en, ev, ew)
+  handed_with (Err z) after n v w h en ev ew = rw (← h, en, ev, ew)
 
   pub stopped_with : (fused : Bool) (n : ℕ) (s : S) → e ≡ record { answer = refused n; fuse = fuse_of fused u; state = s } → crossed_with n u s b ≡ crossing_with k u b e
   unfolding crossing_with
@@ -101,9 +113,9 @@ module _ {X A : Type 0} (g : Geometry) (a : Answer X) (o : Geometry → X → Op
       → crossed n v after ≡ crossing u (run (fuse_of fused u) (given g a o) s)
   given_stored f r y after n v d ef er = stored _ u r y after n v ((rw ef at er) ∙ sym (given_on g a o (fuse_of fused u) s d))
 
-  -- it is none: k is its number
-  pub none_stored : {m k n : ℕ} → a ≡ refused m → k ≡ m → n ≡ admit g (length s) k → crossed n u s ≡ crossing u (run (fuse_of fused u) (given g a o) s)
-  none_stored {m} {k} {n} d e q = stopped _ u fused n s (rw (q, e) (given_stop g a o (fuse_of fused u) s d))
+  -- it is none
+  pub none_stored : {m n : ℕ} → a ≡ refused m → n ≡ admit g (length s) m → crossed n u s ≡ crossing u (run (fuse_of fused u) (given g a o) s)
+  none_stored {m} {n} d q = stopped _ u fused n s (rw q (given_stop g a o (fuse_of fused u) s d))
 
 module _ {X A B : Type 0} (g : Geometry) (a : Answer X) (o : Geometry → X → Op A) (k : A → B) (fused : Bool) (u : ℕ) (b : B) (s : List ℕ) where
   pub given_stored_with : {x : X} (f : Fuse) (r : Stored) (y : A) (after : List ℕ) (n v : ℕ) (w : B)
@@ -111,9 +123,15 @@ module _ {X A B : Type 0} (g : Geometry) (a : Answer X) (o : Geometry → X → 
       → crossed_with n v after w ≡ crossing_with k u b (run (fuse_of fused u) (given g a o) s)
   given_stored_with f r y after n v w d ef er = stored_with _ k u b r y after n v w ((rw ef at er) ∙ sym (given_on g a o (fuse_of fused u) s d))
 
-  pub none_stored_with : {m j n : ℕ} → a ≡ refused m → j ≡ m → n ≡ admit g (length s) j
+  -- the store hands its value on itself
+  pub given_handed : {x : X} (f : Fuse) (r : Result (A × Fuse) Stopped) (after : List ℕ) (n v : ℕ) (w : B)
+      → a ≡ done x → f ≡ fuse_of fused u → ended_with r after ≡ run f (o g x) s → n ≡ stored_number (left_of r) → v ≡ units_after (left_of r) u → w ≡ value_of k b r
+      → crossed_with n v after w ≡ crossing_with k u b (run (fuse_of fused u) (given g a o) s)
+  given_handed f r after n v w d ef er = handed_with _ k u b r after n v w ((rw ef at er) ∙ sym (given_on g a o (fuse_of fused u) s d))
+
+  pub none_stored_with : {m n : ℕ} → a ≡ refused m → n ≡ admit g (length s) m
       → crossed_with n u s b ≡ crossing_with k u b (run (fuse_of fused u) (given g a o) s)
-  none_stored_with {m} {j} {n} d e q = stopped_with _ k u b fused n s (rw (q, e) (given_stop g a o (fuse_of fused u) s d))
+  none_stored_with {m} {n} d q = stopped_with _ k u b fused n s (rw q (given_stop g a o (fuse_of fused u) s d))
 
 -- ---- a question of a value that came in
 
@@ -122,14 +140,14 @@ module _ {X A B : Type 0} (first : ℕ → ℕ) (g : Geometry) (a : Answer X) (q
   unfolding asked_behind
   asked_told d e h = rw (d, ← e) h
 
-  pub none_told : {m j n : ℕ} → a ≡ refused m → j ≡ m → n ≡ first j → told n b ≡ telling_by k b (asked_behind first g a q)
+  pub none_told : {m n : ℕ} → a ≡ refused m → n ≡ first m → told n b ≡ telling_by k b (asked_behind first g a q)
   unfolding asked_behind telling_by
-  none_told d e h = rw (d, h, e)
+  none_told d h = rw (d, h)
 
 -- ---- an answer that stands beside the bytes that it fills
 
-pub filled_told : (r : Answered) (n : ℕ) (before after : List ℕ) (a : Answer (List ℕ)) → n ≡ answered_number r → answered r after ≡ a → after ≡ unless_done r before after
+pub filled_told : (r : Result (Unit {0}) Refusal) (n : ℕ) (before after : List ℕ) (a : Answer (List ℕ)) → n ≡ code_of r → answered r after ≡ a → after ≡ unless_done r before after
     → told n after ≡ telling_by (λ bs _. bs) before a
 unfolding telling_by
-filled_told heard.Done n before after a e h q = rw (← h, e)
-filled_told (heard.Refused k) n before after a e h q = rw (← h, e) (ap (told k) q)
+filled_told (Ok x) n before after a e h q = rw (← h, e)
+filled_told (Err k) n before after a e h q = rw (← h, e) (ap (told (refusal_number k)) q)

@@ -1,10 +1,11 @@
 -- What crosses between C and the library, said once for every function.
-use Rattle.std.specs.Prelude.{Bool, true, false, List, ◌++◌, ℕ, length, drop}
+use Rattle.std.specs.Prelude.{Bool, true, false, List, ◌++◌, ℕ, length, drop, Result, Ok, Err}
 use Rattle.medium.specs.declared.granularity.Granularity.TheVariants.{Bit}
 use Rattle.medium.specs.declared.geometry.Geometry.{Geometry}
 use Rattle.medium.specs.declared.fuse.Fuse.{Fuse}
 use Rattle.medium.specs.declared.fuse.Fuse.TheVariants.{Absent, Units}
-use Rattle.medium.specs.declared.fuse.Stored.{Stored}
+use Rattle.medium.specs.declared.fuse.Stopped.{Stopped}
+use Rattle.medium.specs.Fuse.{Stored}
 use Rattle.medium.specs.Granularity.{pick}
 use Rattle.medium.specs.Geometry.{geometry_ok, admit, fit_of, geometry_of}
 use Rattle.medium.specs.Operation.{Op, EndIn, Answer, done, refused, and_then, or_refuse, ask, ◌>>=◌, number_of}
@@ -72,6 +73,15 @@ units_left (Units k) u = k
 
 unfoldable pub units_after : Stored → ℕ → ℕ
 units_after r u = units_left (Rattle.medium.specs.Fuse.fuse_of r) u
+
+-- of a store that hands a value on: the fuse or the refusal, and what the value crosses as where it is done
+abbrev pub left_of : {A : Type 0} → Result (A × Fuse) Stopped → Stored
+left_of (Ok x) = Ok x.1
+left_of (Err s) = Err s
+
+abbrev pub value_of : {A B : Type 0} → (A → B) → B → Result (A × Fuse) Stopped → B
+value_of k b (Ok x) = k x.0
+value_of k b (Err s) = b
 
 unfoldable pub crossing : {S A : Type 0} → ℕ → EndIn S A → Crossing S
 crossing u e = crossed (number_of e.answer) (units_left e.fuse u) e.state

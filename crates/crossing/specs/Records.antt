@@ -2,7 +2,7 @@
 -- of a block, a kind below 2 too.
 use Rattle.std.specs.Prelude.{ℕ, Bool, true, false, List, [], ◌∷◌, get_or, eqb}
 use Rattle.medium.specs.Granularity.{pick}
-use Rattle.medium.specs.Operation.{Answer, done, refused, number_of}
+use Rattle.medium.specs.Operation.{Answer, done, refused}
 use Rattle.blocks.specs.declared.header.BlockType.{BlockType}
 use Rattle.blocks.specs.declared.header.BlockType.TheVariants.{Metadata, Data, Undefined}
 use Rattle.blocks.specs.declared.header.BlockHeaderKind.{BlockHeaderKind}
@@ -11,8 +11,6 @@ use Rattle.blocks.specs.declared.record.BlockInfo.{BlockInfo}
 use Rattle.blocks.specs.BlockHeader.{kind_number}
 use Rattle.blocks.specs.Record.{info_of}
 pub use Rattle.blocks.specs.Record.{record_numbers}
-use Rattle.crossing.specs.declared.records.BlockTypeRead.{BlockTypeRead}
-use Rattle.crossing.specs.declared.records.BlockTypeRead.TheVariants as type
 
 -- ---- a type: 2 Metadata, 3 Data, 4 Undefined
 
@@ -21,13 +19,6 @@ block_type_of n =
     pick (eqb n 2) (done Metadata)
     (pick (eqb n 3) (done Data)
     (pick (eqb n 4) (done Undefined) (refused 4)))
-
-abbrev pub block_type_answer : BlockTypeRead → Answer BlockType
-block_type_answer (type.Got t) = done t
-block_type_answer (type.Refused n) = refused n
-
-abbrev pub block_type_number : BlockTypeRead → ℕ
-block_type_number r = number_of (block_type_answer r)
 
 -- ---- a header: kind, erase count
 

@@ -2,7 +2,7 @@
 -- above 65,536".
 use Rattle.std.specs.Prelude.{ℕ, List, [], ◌∷◌, ◌++◌, get_or, eqb}
 use Rattle.medium.specs.Granularity.{pick}
-use Rattle.medium.specs.Operation.{Answer, done, refused, and_then, or_refuse, number_of}
+use Rattle.medium.specs.Operation.{Answer, done, refused, and_then, or_refuse}
 use Rattle.objects.specs.declared.types.ObjectType.{ObjectType}
 use Rattle.objects.specs.declared.state.ObjectDataState.TheVariants.{Untrusted, Valid, Deleted}
 use Rattle.objects.specs.declared.state.CompositeObjectState.{CompositeObjectState}
@@ -14,14 +14,12 @@ use Rattle.objects.specs.declared.header.ObjectHeader.{ObjectHeader}
 use Rattle.objects.specs.declared.reader.ObjectReader.{ObjectReader}
 use Rattle.objects.specs.declared.metadata.MetadataObjectHeader.{MetadataObjectHeader}
 use Rattle.objects.specs.declared.iterator.ObjectIterator.{ObjectIterator}
-use Rattle.objects.specs.Types.{type_byte, TypeSaid, typed, untyped, type_of, rank_of}
+use Rattle.objects.specs.Types.{type_byte, TypeSaid, typed, untyped, type_of, rank_of, type_number}
 use Rattle.objects.specs.Reader.{possible}
 use Rattle.objects.specs.Info.{Info, found, none}
 use Rattle.objects.specs.Listing.{placed, Met, object, free_place, block_end}
 use Rattle.crossing.specs.Crossing.{Two, two}
 use Rattle.crossing.specs.declared.values.Target.{Target}
-use Rattle.crossing.specs.declared.values.TargetRead.{TargetRead}
-use Rattle.crossing.specs.declared.values.TargetRead.TheVariants as target
 
 -- ---- the state of an object: type and state number
 
@@ -39,10 +37,6 @@ state_by (refused k) n = refused 4
 -- type FF with state 0, or one of the three types with another
 unfoldable pub state_of : ℕ → ℕ → Answer CompositeObjectState
 state_of kind n = state_by (type_of kind) n
-
-abbrev pub type_number : CompositeObjectState → ℕ
-type_number comp.Free = 0xFF
-type_number (comp.Allocated t d) = type_byte t
 
 -- ---- locations and iterators: block, offset
 
@@ -71,13 +65,6 @@ abbrev pub header_numbers : ObjectHeader → List ℕ
 header_numbers h = type_number h.state ∷ rank_of h.state ∷ h.size ∷ location_numbers h.location
 
 -- ---- a header with the state that its object is to go to: 0 Free, 1 Allocated, 2 Finalized, 3 Deleted
-
-abbrev pub target_answer : TargetRead → Answer Target
-target_answer (target.Got t) = done t
-target_answer (target.Refused n) = refused n
-
-abbrev pub target_number : TargetRead → ℕ
-target_number r = number_of (target_answer r)
 
 unfoldable pub object_state_of : ℕ → Answer ObjectState
 object_state_of n =

@@ -2,55 +2,51 @@
 ghost use Rattle.std.specs.Prelude.{◌≡◌};
 ghost use Rattle.medium.specs.Geometry.{admit};
 ghost use Rattle.medium.specs.Fuse.{stored_number};
-ghost use Rattle.medium.specs.Operation.{counted};
+ghost use Rattle.medium.specs.Refusal.{refusal_number, answer_of};
 ghost use Rattle.crossing.specs.Crossing.{geometry_in, admit_alone, fuse_of, units_left, units_after, told, telling, plain};
 
 use medium::fuse::{Fuse, Stored};
 use medium::geometry;
-use medium::geometry::{Counted, Geometry, GeometryRead};
+use medium::geometry::Geometry;
 use medium::granularity::Granularity;
+use medium::refusal::Refusal;
 
 // The geometry that six numbers say. Where they say none it is one with no bytes, which every call refuses with 6.
 pub fn geometry(n: &[u32; 6]) -> Geometry
     ensures { result ≡ geometry_in n.now }
 {
-    let read = geometry::of_numbers(n);
-    let GeometryRead::Got(g) = read else {
-        return Geometry {
-            granularity: Granularity::Bit,
-            s: 0,
-            c: 0,
-            strict: 0,
-            size: 0,
-            count: 0,
-        };
-    };
-    g
+    Geometry::try_from(*n).unwrap_or(Geometry {
+        granularity: Granularity::Bit,
+        s: 0,
+        c: 0,
+        strict: 0,
+        size: 0,
+        count: 0,
+    })
 }
 
-// The number of a value whose numbers say none, for a call with an image of so many bytes: 6 and 7 come first.
+// The number of a value whose numbers say none, for a call with an image of so many bytes: 6 and 7 come first. C takes a number.
 pub fn refusal(g: Geometry, room: usize, k: u8) -> u8
     ensures { result ≡ admit g room k }
 {
-    let bad = geometry::check(g, room);
-    if bad != 0 {
-        return bad;
+    match geometry::check(g, room) {
+        Ok(()) => k,
+        Err(first) => first.number(),
     }
-    k
 }
 
 // The same for a call with no image.
 pub fn refusal_alone(g: Geometry, k: u8) -> u8
     ensures { result ≡ admit_alone g k }
 {
-    let bad = geometry::fit(g);
-    if bad != 0 {
-        return bad;
+    match geometry::fit(g) {
+        Ok(()) => k,
+        Err(first) => first.number(),
     }
-    k
 }
 
 // The fuse that a flag and a count of units say.
+#[tactic(auto, unfolding(crate::specs::Crossing::fuse_of))]
 pub fn fuse_of(fused: bool, units: &u32) -> Fuse
     ensures { result ≡ fuse_of fused units.now }
 {
@@ -62,18 +58,19 @@ pub fn fuse_of(fused: bool, units: &u32) -> Fuse
 }
 
 // The number of a store's answer, and the units that it left.
+#[tactic(auto, unfolding(crate::specs::Crossing::units_after))]
 pub fn hand_back(answer: Stored, units: &mut u32) -> u8
     ensures value { result ≡ stored_number answer }
     ensures units_after { units.new ≡ units_after answer units.old }
 {
     match answer {
-        Stored::Done(f) => {
-            leave(f, units);
+        Ok(fuse) => {
+            leave(fuse, units);
             0
         }
-        Stored::Refused(k, f) => {
-            leave(f, units);
-            k
+        Err(stopped) => {
+            leave(stopped.fuse, units);
+            stopped.refusal.number()
         }
     }
 }
@@ -84,18 +81,5 @@ fn leave(f: Fuse, units: &mut u32)
 {
     if let Fuse::Units(k) = f {
         *units = k;
-    }
-}
-
-// The number of a count's answer, and the count where there is one.
-pub fn hand_count(answer: Counted, out: &mut u64) -> u8
-    ensures { told result out.new ≡ telling plain out.old (counted answer) }
-{
-    match answer {
-        Counted::Bytes(n) => {
-            *out = n as u64;
-            0
-        }
-        Counted::Refused(k) => k,
     }
 }

@@ -5,6 +5,7 @@
 #![tactic(auto)]
 
 pub mod call;
+pub mod hand;
 pub mod outs;
 pub mod records;
 pub mod values;

@@ -1,58 +1,62 @@
 // Values that come in as numbers: a header, alone or with a state to go to, a reader, a metadata header and an iterator. Numbers that no
-// value has give 4.
+// value has give 4. Functions and no TryFrom, since neither that trait nor the types are of this crate.
 ghost use Rattle.std.specs.Prelude.{◌≡◌};
-ghost use Rattle.objects.specs.Header.{state_answer, header_answer};
-ghost use Rattle.objects.specs.Reader.{reader_answer};
-ghost use Rattle.objects.specs.Metadata.{metadata_answer};
-ghost use Rattle.crossing.specs.Values.{target_of, target_answer, target_number, data_state_of, state_of, header_from, header_of, reader_of, metadata_of, iterator_of};
+ghost use Rattle.medium.specs.Refusal.{answer_of};
+ghost use Rattle.crossing.specs.Values.{target_of, data_state_of, state_of, header_from, header_of, reader_of, metadata_of, iterator_of};
 
-use objects::header::{HeaderRead, ObjectHeader};
+use medium::refusal::Refusal;
+use objects::header::ObjectHeader;
 use objects::iterator::ObjectIterator;
 use objects::location::ObjectLocation;
-use objects::metadata::{MetadataObjectHeader, MetadataRead};
-use objects::reader::{ObjectReader, ReaderRead};
-use objects::state::{CompositeObjectState, ObjectDataState, ObjectState, StateRead};
-use objects::types::{ObjectType, TypeRead};
+use objects::metadata::MetadataObjectHeader;
+use objects::reader::ObjectReader;
+use objects::state::{CompositeObjectState, ObjectDataState, ObjectState};
+use objects::types::ObjectType;
 
 // The state of an object of a type: 1 to 3.
-fn data_state_of(t: ObjectType, state: u32) -> StateRead
-    ensures { state_answer result ≡ data_state_of t state }
+#[tactic(auto, unfolding(crate::specs::Values::data_state_of))]
+fn data_state_of(t: ObjectType, state: u32) -> Result<CompositeObjectState, Refusal>
+    ensures { answer_of result ≡ data_state_of t state }
 {
     match state {
-        1 => StateRead::Got(CompositeObjectState::Allocated(t, ObjectDataState::Untrusted)),
-        2 => StateRead::Got(CompositeObjectState::Allocated(t, ObjectDataState::Valid)),
-        3 => StateRead::Got(CompositeObjectState::Allocated(t, ObjectDataState::Deleted)),
-        _ => StateRead::Refused(4),
+        1 => Ok(CompositeObjectState::Allocated(t, ObjectDataState::Untrusted)),
+        2 => Ok(CompositeObjectState::Allocated(t, ObjectDataState::Valid)),
+        3 => Ok(CompositeObjectState::Allocated(t, ObjectDataState::Deleted)),
+        _ => Err(Refusal::InvalidOperation),
     }
 }
 
 // What a type number and a state number say together: only Free has no type, and it has none.
-pub fn state_of(kind: u32, state: u32) -> StateRead
-    ensures { state_answer result ≡ state_of kind state }
+#[tactic(auto, unfolding(crate::specs::Values::state_of))]
+pub fn state_of(kind: u32, state: u32) -> Result<CompositeObjectState, Refusal>
+    ensures { answer_of result ≡ state_of kind state }
 {
     if 255 < kind {
-        return StateRead::Refused(4);
+        return Err(Refusal::InvalidOperation);
     }
-    let told = ObjectType::parse(kind as u8);
-    match told {
-        TypeRead::Got(t) => data_state_of(t, state),
-        TypeRead::Free => match state {
-            0 => StateRead::Got(CompositeObjectState::Free),
-            _ => StateRead::Refused(4),
+    match ObjectType::parse(kind as u8) {
+        Ok(Some(t)) => data_state_of(t, state),
+        Ok(None) => match state {
+            0 => Ok(CompositeObjectState::Free),
+            _ => Err(Refusal::InvalidOperation),
         },
-        TypeRead::Refused(_) => StateRead::Refused(4),
+        Err(_) => Err(Refusal::InvalidOperation),
     }
 }
 
 // A header of five numbers.
-pub fn header_from(kind: u32, state: u32, size: u32, block: u32, offset: u32) -> HeaderRead
-    ensures { header_answer result ≡ header_from kind state size block offset }
+#[tactic(auto, unfolding(crate::specs::Values::header_from))]
+pub fn header_from(
+    kind: u32,
+    state: u32,
+    size: u32,
+    block: u32,
+    offset: u32,
+) -> Result<ObjectHeader, Refusal>
+    ensures { answer_of result ≡ header_from kind state size block offset }
 {
-    let told = state_of(kind, state);
-    let StateRead::Got(st) = told else {
-        return HeaderRead::Refused(told.number());
-    };
-    HeaderRead::Got(ObjectHeader {
+    let st = state_of(kind, state)?;
+    Ok(ObjectHeader {
         state: st,
         size: size,
         location: ObjectLocation {
@@ -62,54 +66,33 @@ pub fn header_from(kind: u32, state: u32, size: u32, block: u32, offset: u32) ->
     })
 }
 
-pub fn header_of(n: &[u32; 5]) -> HeaderRead
-    ensures { header_answer result ≡ header_of n.now }
+pub fn header_of(n: &[u32; 5]) -> Result<ObjectHeader, Refusal>
+    ensures { answer_of result ≡ header_of n.now }
 {
     header_from(n[0], n[1], n[2], n[3], n[4])
 }
 
 // A header and the state that its object is to go to.
-#[derive(Clone, Copy)]
+#[derive(Clone, Copy, Debug, PartialEq, Eq)]
 pub struct Target {
     pub header: ObjectHeader,
     pub state: ObjectState,
 }
 
-#[derive(Clone, Copy)]
-pub enum TargetRead {
-    Got(Target),
-    Refused(u8),
-}
-
-impl TargetRead {
-    pub fn number(self) -> u8
-        ensures { result ≡ target_number self }
-    {
-        match self {
-            TargetRead::Got(_) => 0,
-            TargetRead::Refused(k) => k,
-        }
-    }
-}
-
 // What the numbers of a header and a number from 0 to 3 say.
-pub fn target_of(n: &[u32; 5], state: u8) -> TargetRead
-    ensures { target_answer result ≡ target_of n.now state }
+#[tactic(auto, unfolding(crate::specs::Values::target_of, crate::specs::Values::object_state_of))]
+pub fn target_of(n: &[u32; 5], state: u8) -> Result<Target, Refusal>
+    ensures { answer_of result ≡ target_of n.now state }
 {
-    let told = header_of(n);
-    let HeaderRead::Got(h) = told else {
-        return TargetRead::Refused(told.number());
-    };
+    let h = header_of(n)?;
     let to = match state {
         0 => ObjectState::Free,
         1 => ObjectState::Allocated,
         2 => ObjectState::Finalized,
         3 => ObjectState::Deleted,
-        _ => {
-            return TargetRead::Refused(4);
-        }
+        _ => return Err(Refusal::InvalidOperation),
     };
-    TargetRead::Got(Target {
+    Ok(Target {
         header: h,
         state: to,
     })
@@ -127,36 +110,32 @@ pub fn iterator_of(n: &[u32; 2]) -> ObjectIterator
 }
 
 // A header and a cursor of at most 65,536.
-pub fn reader_of(n: &[u32; 6]) -> ReaderRead
-    ensures { reader_answer result ≡ reader_of n.now }
+#[tactic(auto, unfolding(crate::specs::Values::reader_of))]
+pub fn reader_of(n: &[u32; 6]) -> Result<ObjectReader, Refusal>
+    ensures { answer_of result ≡ reader_of n.now }
 {
-    let told = header_from(n[0], n[1], n[2], n[3], n[4]);
-    let HeaderRead::Got(h) = told else {
-        return ReaderRead::Refused(told.number());
-    };
+    let h = header_from(n[0], n[1], n[2], n[3], n[4])?;
     let cursor = n[5];
     if 65536 < cursor {
-        return ReaderRead::Refused(4);
+        return Err(Refusal::InvalidOperation);
     }
-    ReaderRead::Got(ObjectReader {
+    Ok(ObjectReader {
         object: h,
         cursor: cursor as usize,
     })
 }
 
 // A header, the path's hash, the name's location and a cursor of at most 65,536.
-pub fn metadata_of(n: &[u32; 9]) -> MetadataRead
-    ensures { metadata_answer result ≡ metadata_of n.now }
+#[tactic(auto, unfolding(crate::specs::Values::metadata_of))]
+pub fn metadata_of(n: &[u32; 9]) -> Result<MetadataObjectHeader, Refusal>
+    ensures { answer_of result ≡ metadata_of n.now }
 {
-    let told = header_from(n[0], n[1], n[2], n[3], n[4]);
-    let HeaderRead::Got(h) = told else {
-        return MetadataRead::Refused(told.number());
-    };
+    let h = header_from(n[0], n[1], n[2], n[3], n[4])?;
     let cursor = n[8];
     if 65536 < cursor {
-        return MetadataRead::Refused(4);
+        return Err(Refusal::InvalidOperation);
     }
-    MetadataRead::Got(MetadataObjectHeader {
+    Ok(MetadataObjectHeader {
         object: h,
         hash: n[5],
         name: ObjectLocation {

@@ -10,35 +10,38 @@
 ghost use Rattle.std.specs.Prelude.{◌≤◌, ◌≡◌, length};
 
 use cuts::moment::Moment;
-use files::Loaded;
-use lines::argument::NumberRead;
+use files::LoadError;
 use lines::moment::Twin;
 use medium::geometry::Geometry;
-use objects::header::{HeaderRead, ObjectHeader};
+use medium::refusal;
+use medium::refusal::Refusal;
+use objects::header::ObjectHeader;
 use objects::location::ObjectLocation;
 use std::env::{Env, FillError};
 
 // More than a move can take: the payload of a whole block, its size, and four units.
 const MOST_UNITS: u32 = 65600;
 
-fn print_refusal(rt: &HostRuntime, k: u8) {
-    let mut line = [0; 128];
-    let n = lines::refusal::refusal_line(&mut line, k);
-    let _ = rt.stdout().write_all(&line[..n]);
+fn print_refusal(rt: &HostRuntime, refusal: Refusal) {
+    let line = lines::refusal::refusal_line(refusal.number());
+    let _ = rt.stdout().write_all(line.as_bytes());
 }
 
 fn print_moment(rt: &HostRuntime, s: u8, fuse: u32, m: Moment) {
-    let mut line = [0; 128];
-    let original = m.original;
-    let copy = m.copy;
-    let n = lines::moment::moment_line(&mut line, s, fuse, m.answer, original, copy, m.agree);
-    let _ = rt.stdout().write_all(&line[..n]);
+    let line = lines::moment::moment_line(
+        s,
+        fuse,
+        refusal::number(m.answer),
+        m.original,
+        m.copy,
+        m.agree,
+    );
+    let _ = rt.stdout().write_all(line.as_bytes());
 }
 
 fn print_twin(rt: &HostRuntime, t: Twin) {
-    let mut line = [0; 128];
-    let n = lines::moment::twin_line(&mut line, t);
-    let _ = rt.stdout().write_all(&line[..n]);
+    let line = lines::moment::twin_line(t);
+    let _ = rt.stdout().write_all(line.as_bytes());
 }
 
 // The fuses of the twin, with one more.
@@ -69,14 +72,14 @@ fn cut(
 }
 
 // Where to stop: behind the fuse that follows the first one that is enough.
-fn end_after(end: u32, fuse: u32, answer: u8) -> u32
+fn end_after(end: u32, fuse: u32, answer: Result<(), Refusal>) -> u32
     requires { fuse ≤ 65600 }
     ensures { result ≤ end }
 {
-    if answer == 8 {
+    if answer == Err(Refusal::PowerLost) {
         return end;
     }
-    if fuse + 2 < end { fuse + 2 } else { end }
+    end.min(fuse + 2)
 }
 
 fn print_map(
@@ -92,6 +95,7 @@ fn print_map(
     let mut twin = Twin::Never;
     let mut end = MOST_UNITS;
     let mut fuse = 0;
+    // No range: the end comes nearer in the loop.
     while fuse < end {
         let m = cut(rt, g, image, work, fuse, h, to);
         if m.twin {
@@ -106,10 +110,9 @@ fn print_map(
 fn map_object(rt: &HostRuntime, g: Geometry, image: &[u8], from: ObjectLocation, to: ObjectLocation)
     requires { length image.now ≤ 65536 }
 {
-    let got = ObjectHeader::read(g, image, from);
-    let HeaderRead::Got(h) = got else {
-        print_refusal(rt, got.number());
-        return;
+    let h = match ObjectHeader::read(g, image, from) {
+        Ok(h) => h,
+        Err(refusal) => return print_refusal(rt, refusal),
     };
     let n = image.len();
     let mut work = [0; 65536];
@@ -118,21 +121,17 @@ fn map_object(rt: &HostRuntime, g: Geometry, image: &[u8], from: ObjectLocation,
 
 fn map(rt: &HostRuntime, from: ObjectLocation, to: ObjectLocation) {
     let mut buffer = [0; 65536];
-    let loaded = files::load(rt, b"geometry.bin", b"image.bin", &mut buffer);
-    match loaded {
-        Loaded::Failed => {}
-        Loaded::Refused(k) => print_refusal(rt, k),
-        Loaded::Ready(g, n) => map_object(rt, g, &buffer[..n], from, to),
+    match files::load(rt, b"geometry.bin", b"image.bin", &mut buffer) {
+        Ok((g, n)) => map_object(rt, g, &buffer[..n], from, to),
+        Err(LoadError::Refused(refusal)) => print_refusal(rt, refusal),
+        Err(LoadError::Failed) => {}
     }
 }
 
-fn argument(rt: &HostRuntime, i: usize) -> NumberRead {
+fn argument(rt: &HostRuntime, i: usize) -> Option<u32> {
     let mut text = [0; 16];
-    let got = rt.arg(i, &mut text);
-    match got {
-        Ok(n) => lines::argument::number_of(&text[..n]),
-        Err(_) => NumberRead::Refused,
-    }
+    let n = rt.arg(i, &mut text).ok()?;
+    lines::argument::number_of(&text[..n])
 }
 
 fn usage(rt: &HostRuntime) {
@@ -142,24 +141,12 @@ fn usage(rt: &HostRuntime) {
 }
 
 // The place that two arguments name.
-#[derive(Clone, Copy)]
-enum Place {
-    At(ObjectLocation),
-    Refused,
-}
-
-fn place_of(rt: &HostRuntime, i: usize) -> Place
+fn place_of(rt: &HostRuntime, i: usize) -> Option<ObjectLocation>
     requires { i ≤ 8 }
 {
-    let first = argument(rt, i);
-    let NumberRead::Got(block) = first else {
-        return Place::Refused;
-    };
-    let second = argument(rt, i + 1);
-    let NumberRead::Got(offset) = second else {
-        return Place::Refused;
-    };
-    Place::At(ObjectLocation {
+    let block = argument(rt, i)?;
+    let offset = argument(rt, i + 1)?;
+    Some(ObjectLocation {
         block: block,
         offset: offset,
     })
@@ -175,20 +162,17 @@ fn arg_count(rt: &HostRuntime) -> usize {
     usize::MAX
 }
 
-fn main(rt: HostRuntime) {
-    if arg_count(&rt) != 5 {
-        usage(&rt);
-        return;
+// Where the object stands, and where it is to go.
+fn places(rt: &HostRuntime) -> Option<(ObjectLocation, ObjectLocation)> {
+    if arg_count(rt) != 5 {
+        return None;
     }
-    let first = place_of(&rt, 1);
-    let Place::At(from) = first else {
-        usage(&rt);
-        return;
-    };
-    let second = place_of(&rt, 3);
-    let Place::At(to) = second else {
-        usage(&rt);
-        return;
-    };
-    map(&rt, from, to);
+    Some((place_of(rt, 1)?, place_of(rt, 3)?))
+}
+
+fn main(rt: HostRuntime) {
+    match places(&rt) {
+        Some((from, to)) => map(&rt, from, to),
+        None => usage(&rt),
+    }
 }

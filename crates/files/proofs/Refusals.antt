@@ -1,5 +1,5 @@
 -- A record is refused with 6; an image with 6 or 7; and a loaded pair is what both say.
-use mathlib.Core.Path.{◌≡◌, refl, sym}
+use mathlib.Core.Path.{◌≡◌, refl}
 use mathlib.Core.Logic.{inl, inr}
 use mathlib.Core.Bool.{Bool, true, false}
 use mathlib.Core.List.{List}
@@ -14,23 +14,18 @@ use Rattle.medium.specs.Granularity.{pick, granularity_of}
 use Rattle.medium.specs.Geometry.{geometry_ok, admit, fit_of, check_of, fields_hold, geometry_with, geometry_of}
 use Rattle.medium.specs.Operation.{Answer, done, refused, and_then}
 use Rattle.geometry_record.specs.GeometryRecord.{well_formed, numbers_of, recorded}
-use Rattle.files.specs.declared.pair.RecordFile.{RecordFile}
-use Rattle.files.specs.declared.pair.RecordFile.TheVariants as said
-use Rattle.files.specs.declared.pair.Loaded.{Loaded}
-use Rattle.files.specs.declared.pair.Loaded.TheVariants as loaded
-use Rattle.files.specs.Files.{sound_by, sound_of, Said, RecordFits, SixOrSeven, ImageFits, LoadedFits}
+use Rattle.files.specs.Files.{sound_by, sound_of, SixOrSeven}
 
--- of each case: the refusal is 6
-abbrev Six : RecordFile → Type 0
-Six (said.Got g) = Unit {0}
-Six (said.Refused k) = k ≡ 6
-Six said.Failed = Unit {0}
+-- a refusal is 6
+abbrev Six : Answer Geometry → Type 0
+Six (done g) = Unit {0}
+Six (refused k) = k ≡ 6
 
-fit_six : (g : Geometry) → Six (pick (eqb (fit_of g) 0) (said.Got g) (said.Refused (fit_of g)))
+fit_six : (g : Geometry) → Six (pick (eqb (fit_of g) 0) (done g) (refused (fit_of g)))
 unfolding fit_of
 fit_six g = go (geometry_ok g)
   where
-    go : (t : Bool) → Six (pick (eqb (pick {A = ℕ} t 0 6) 0) (said.Got g) (said.Refused (pick t 0 6)))
+    go : (t : Bool) → Six (pick (eqb (pick {A = ℕ} t 0 6) 0) (done g) (refused (pick t 0 6)))
     go true = tt
     go false = refl
 
@@ -66,10 +61,8 @@ sound_six raw = go (well_formed raw)
     go false = refl
 
 -- what the bytes of a record give
-pub record_fits : (raw : List ℕ) (r : RecordFile) → r ≡ sound_of raw → RecordFits r
-record_fits raw (said.Got g) e = record { raw = raw; sound = sym e }
-record_fits raw (said.Refused k) e = rw (← e) at (sound_six raw)
-record_fits raw said.Failed e = tt
+pub refuses : (raw : List ℕ) (k : ℕ) → refused k ≡ sound_of raw → k ≡ 6
+refuses raw k e = rw (← e) at (sound_six raw)
 
 -- a check that refuses gives 6 or 7
 pub check_refuses : (g : Geometry) (room r : ℕ) → r ≡ check_of g room → (r ≡ 0 → ⊥) → SixOrSeven r
@@ -80,9 +73,3 @@ check_refuses g room r e n = go (geometry_ok g) (eqb (g.size * g.count) room) e
     go true true h = absurd (n h)
     go true false h = inr h
     go false b h = inl h
-
--- the image that goes with a record
-pub both_fit : (g : Geometry) (r : Loaded) (room : ℕ) → Said g → ImageFits g r room → LoadedFits r room
-both_fit g (loaded.Ready h n) room s i = rw i.0 (i.1, i.2, s)
-both_fit g (loaded.Refused k) room s i = i
-both_fit g loaded.Failed room s i = tt

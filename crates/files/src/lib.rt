@@ -8,5 +8,5 @@ mod failure;
 mod pair;
 mod whole;
 
-pub use pair::{Loaded, load};
-pub use whole::{FileRead, read};
+pub use pair::{LoadError, load};
+pub use whole::{ReadError, read};

@@ -1,78 +1,80 @@
 // A geometry record and the image that it describes.
 ghost use Rattle.std.specs.Prelude.{◌≡◌, length};
+ghost use Rattle.medium.specs.Refusal.{answer_of};
+ghost use Rattle.files.specs.declared.pair.LoadError.TheVariants.{Refused};
 ghost use Rattle.files.specs.Files.{sound_of, RecordFits, ImageFits, LoadedFits};
 
 use crate::whole;
-use crate::whole::FileRead;
-use medium::geometry::{Geometry, GeometryRead};
+use crate::whole::ReadError;
+use medium::geometry;
+use medium::geometry::Geometry;
+use medium::refusal::Refusal;
 
-#[derive(Clone, Copy)]
-pub enum Loaded {
-    // A sound geometry, and an image of the length that it says in the first bytes of the buffer.
-    Ready(Geometry, usize),
-    Refused(u8),
+// Why there is no record or no image.
+#[derive(Clone, Copy, Debug, PartialEq, Eq)]
+pub enum LoadError {
+    Refused(Refusal),
+    // A file cannot be read, and standard error has been told.
     Failed,
 }
 
-#[derive(Clone, Copy)]
-enum RecordFile {
-    Got(Geometry),
-    Refused(u8),
-    Failed,
+impl From<Refusal> for LoadError {
+    ghost from_gives = { λ k e. e ≡ Refused k };
+
+    fn from(refusal: Refusal) -> LoadError {
+        LoadError::Refused(refusal)
+    }
 }
 
 // The geometry of a record that keeps the medium's rules.
-fn sound(raw: &[u8]) -> RecordFile
-    ensures { result ≡ sound_of raw.now }
+fn sound(raw: &[u8]) -> Result<Geometry, Refusal>
+    ensures { answer_of result ≡ sound_of raw.now }
 {
-    let got = geometry_record::geometry_of(raw);
-    let GeometryRead::Got(g) = got else {
-        return RecordFile::Refused(got.number());
-    };
-    let bad = medium::geometry::fit(g);
-    if bad != 0 {
-        return RecordFile::Refused(bad);
-    }
-    RecordFile::Got(g)
+    let g = geometry_record::geometry_of(raw)?;
+    geometry::fit(g)?;
+    Ok(g)
 }
 
-fn load_geometry(rt: &HostRuntime, path: &[u8]) -> RecordFile
+fn load_geometry(rt: &HostRuntime, path: &[u8]) -> Result<Geometry, LoadError>
     ensures { RecordFits result }
 {
     let mut raw = [0u8; 16];
-    let got = whole::read(rt, path, &mut raw);
-    match got {
-        FileRead::Failed => RecordFile::Failed,
-        FileRead::TooLong => RecordFile::Refused(6),
-        FileRead::Bytes(n) => sound(&raw[..n]),
+    match whole::read(rt, path, &mut raw) {
+        Ok(n) => Ok(sound(&raw[..n])?),
+        Err(ReadError::TooLong) => Err(LoadError::Refused(Refusal::BadGeometry)),
+        Err(ReadError::Failed) => Err(LoadError::Failed),
     }
 }
 
-fn load_image(rt: &HostRuntime, path: &[u8], g: Geometry, buffer: &mut [u8]) -> Loaded
+// How many bytes of the buffer are the image.
+fn load_image(
+    rt: &HostRuntime,
+    path: &[u8],
+    g: Geometry,
+    buffer: &mut [u8],
+) -> Result<usize, LoadError>
     ensures { ImageFits g result (length buffer.old) }
 {
-    let got = whole::read(rt, path, buffer);
-    match got {
-        FileRead::Failed => Loaded::Failed,
-        FileRead::TooLong => Loaded::Refused(7),
-        FileRead::Bytes(n) => {
-            let bad = medium::geometry::check(g, n);
-            if bad != 0 {
-                return Loaded::Refused(bad);
-            }
-            Loaded::Ready(g, n)
-        }
-    }
+    let n = match whole::read(rt, path, buffer) {
+        Ok(n) => n,
+        Err(ReadError::TooLong) => return Err(LoadError::Refused(Refusal::BadRoom)),
+        Err(ReadError::Failed) => return Err(LoadError::Failed),
+    };
+    geometry::check(g, n)?;
+    Ok(n)
 }
 
-// Reads the record, and then the image into the buffer. Refused with 6 for the record, 7 for the image.
-pub fn load(rt: &HostRuntime, record_path: &[u8], image_path: &[u8], buffer: &mut [u8]) -> Loaded
+// Reads the record, and then the image into the first bytes of the buffer: its geometry, and how many bytes it has. Refused with 6 for the
+// record, 7 for the image.
+pub fn load(
+    rt: &HostRuntime,
+    record_path: &[u8],
+    image_path: &[u8],
+    buffer: &mut [u8],
+) -> Result<(Geometry, usize), LoadError>
     ensures { LoadedFits result (length buffer.old) }
 {
-    let got = load_geometry(rt, record_path);
-    match got {
-        RecordFile::Failed => Loaded::Failed,
-        RecordFile::Refused(k) => Loaded::Refused(k),
-        RecordFile::Got(g) => load_image(rt, image_path, g, buffer),
-    }
+    let g = load_geometry(rt, record_path)?;
+    let n = load_image(rt, image_path, g, buffer)?;
+    Ok((g, n))
 }

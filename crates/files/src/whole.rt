@@ -1,67 +1,65 @@
 // A file, from its start to its end.
 ghost use Rattle.std.specs.Prelude.{length};
-ghost use Rattle.files.specs.Files.{PieceFits, FileFits};
+ghost use Rattle.files.specs.Files.{FileFits};
 
 use crate::failure::fail;
 use std::fs::File;
 use std::io;
 use std::io::{ErrorKind, Read};
 
-#[derive(Clone, Copy)]
-pub enum FileRead {
-    // How many bytes it has.
-    Bytes(usize),
-    // More than the buffer holds.
+// Why a file is not in the buffer.
+#[derive(Clone, Copy, Debug, PartialEq, Eq)]
+pub enum ReadError {
+    // It has more bytes than the buffer holds.
     TooLong,
     // It cannot be read, and standard error has been told.
     Failed,
 }
 
-// What one read gives.
-#[derive(Clone, Copy)]
-enum Piece {
-    Bytes(usize),
-    End,
-    Failed,
-}
-
-fn read_some(rt: &HostRuntime, file: &mut File, path: &[u8], rest: &mut [u8]) -> Piece
-    ensures { PieceFits result (length rest.old) }
+// What one read gives: how many bytes, and 0 at the end.
+fn read_some(
+    rt: &HostRuntime,
+    file: &mut File,
+    path: &[u8],
+    rest: &mut [u8],
+) -> Result<usize, ReadError>
+    ensures { FileFits result (length rest.old) }
 {
-    let got = file.read(rest);
-    match got {
+    match file.read(rest) {
+        Ok(n) => Ok(n),
         Err(e) => {
             fail(rt, path, e);
-            Piece::Failed
+            Err(ReadError::Failed)
         }
-        Ok(0) => Piece::End,
-        Ok(n) => Piece::Bytes(n),
     }
 }
 
 // A buffer that is full holds the whole file if nothing comes any more.
-fn at_end(rt: &HostRuntime, file: &mut File, path: &[u8], n: usize) -> FileRead
+fn at_end(rt: &HostRuntime, file: &mut File, path: &[u8], n: usize) -> Result<usize, ReadError>
     ensures { FileFits result n }
 {
     let mut more = [0u8; 1];
-    let p = read_some(rt, file, path, &mut more);
-    match p {
-        Piece::Failed => FileRead::Failed,
-        Piece::End => FileRead::Bytes(n),
-        Piece::Bytes(_) => FileRead::TooLong,
+    match read_some(rt, file, path, &mut more)? {
+        0 => Ok(n),
+        _ => Err(ReadError::TooLong),
     }
 }
 
-fn fill(rt: &HostRuntime, file: &mut File, path: &[u8], buffer: &mut [u8]) -> FileRead
+// Reads on until the file ends: std's read_to_end needs a heap.
+fn fill(
+    rt: &HostRuntime,
+    file: &mut File,
+    path: &[u8],
+    buffer: &mut [u8],
+) -> Result<usize, ReadError>
     ensures { FileFits result (length buffer.old) }
 {
     let mut n = 0;
+    // No range: a step is as many bytes as were read.
     while n < buffer.len() {
-        let p = read_some(rt, file, path, &mut buffer[n..]);
-        match p {
-            Piece::Failed => return FileRead::Failed,
-            Piece::End => return FileRead::Bytes(n),
-            Piece::Bytes(k) => n += k,
+        match read_some(rt, file, path, &mut buffer[n..])? {
+            0 => return Ok(n),
+            k => n += k,
         }
     }
     at_end(rt, file, path, n)
@@ -75,16 +73,15 @@ fn open(rt: &HostRuntime, path: &[u8]) -> io::Result<File> {
     }
 }
 
-// Reads the file into the first bytes of the buffer.
-pub fn read(rt: &HostRuntime, path: &[u8], buffer: &mut [u8]) -> FileRead
+// Reads the file into the first bytes of the buffer; how many it has.
+pub fn read(rt: &HostRuntime, path: &[u8], buffer: &mut [u8]) -> Result<usize, ReadError>
     ensures { FileFits result (length buffer.old) }
 {
-    let opened = open(rt, path);
-    match opened {
+    match open(rt, path) {
+        Ok(mut file) => fill(rt, &mut file, path, buffer),
         Err(e) => {
             fail(rt, path, e);
-            FileRead::Failed
+            Err(ReadError::Failed)
         }
-        Ok(mut file) => fill(rt, &mut file, path, buffer),
     }
 }

@@ -5,21 +5,21 @@
 #![tactic(auto)]
 
 ghost use Rattle.std.specs.Prelude.{◌≡◌, ◌+◌, ◌≤◌, length};
-ghost use Rattle.medium.specs.Geometry.{geometry_answer};
+ghost use Rattle.medium.specs.Refusal.{answer_of};
 ghost use Rattle.geometry_record.specs.GeometryRecord.{word_at, well_formed, numbers_of, recorded};
 
 use medium::geometry;
-use medium::geometry::GeometryRead;
+use medium::geometry::Geometry;
+use medium::refusal::Refusal;
 
 // The geometry of a record, or 6: another length, one of the last four bytes not 0, or no granularity.
-pub fn geometry_of(raw: &[u8]) -> GeometryRead
-    ensures { geometry_answer result ≡ recorded raw.now }
+pub fn geometry_of(raw: &[u8]) -> Result<Geometry, Refusal>
+    ensures { answer_of result ≡ recorded raw.now }
 {
-    if is_well_formed(raw) {
-        let n = numbers(raw);
-        return geometry::of_numbers(&n);
+    if !is_well_formed(raw) {
+        return Err(Refusal::BadGeometry);
     }
-    GeometryRead::Refused(6)
+    Geometry::try_from(numbers(raw))
 }
 
 // Sixteen bytes, with the last four 0.
@@ -59,9 +59,5 @@ fn word(raw: &[u8], at: usize) -> u32
     requires { at + 4 ≤ length raw.now }
     ensures { result ≡ word_at raw.now at }
 {
-    let a = raw[at] as u32;
-    let b = raw[at + 1] as u32;
-    let c = raw[at + 2] as u32;
-    let d = raw[at + 3] as u32;
-    a + 256 * (b + 256 * (c + 256 * d))
+    u32::from_le_bytes([raw[at], raw[at + 1], raw[at + 2], raw[at + 3]])
 }

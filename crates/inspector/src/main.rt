@@ -8,73 +8,60 @@
 // that is not set.
 #![tactic(auto)]
 
-use blocks::record::BlockInfoRead;
-use files::Loaded;
+use blocks::record::BlockInfo;
+use files::LoadError;
 use medium::geometry::Geometry;
+use medium::refusal::Refusal;
 use objects::header::ObjectHeader;
 use objects::iterator::{Next, ObjectIterator};
 use std::env::{Env, FillError};
 
-fn print_refusal(rt: &HostRuntime, k: u8) {
-    let mut line = [0; 128];
-    let n = lines::refusal::refusal_line(&mut line, k);
-    let _ = rt.stdout().write_all(&line[..n]);
+fn print_refusal(rt: &HostRuntime, refusal: Refusal) {
+    let line = lines::refusal::refusal_line(refusal.number());
+    let _ = rt.stdout().write_all(line.as_bytes());
 }
 
 fn print_object(rt: &HostRuntime, s: u8, h: ObjectHeader) {
-    let mut line = [0; 128];
-    let n = lines::object::object_line(&mut line, s, h);
-    let _ = rt.stdout().write_all(&line[..n]);
+    let line = lines::object::object_line(s, h);
+    let _ = rt.stdout().write_all(line.as_bytes());
 }
 
 fn print_objects(rt: &HostRuntime, g: Geometry, image: &[u8], block: u32) {
     let mut i = ObjectIterator::new(g, block);
-    loop {
-        let n = i.next(g, image);
-        let Next::Object(h, j) = n else {
-            return;
-        };
+    while let Ok(Next::Object(h, behind)) = i.next(g, image) {
         print_object(rt, g.s, h);
-        i = j;
+        i = behind;
     }
 }
 
-fn print_record(rt: &HostRuntime, block: u32, scan: BlockInfoRead) {
-    let mut line = [0; 128];
-    let n = lines::block::block_line(&mut line, block, scan);
-    let _ = rt.stdout().write_all(&line[..n]);
+fn print_record(rt: &HostRuntime, block: u32, scan: Result<BlockInfo, Refusal>) {
+    let line = lines::block::block_line(block, scan);
+    let _ = rt.stdout().write_all(line.as_bytes());
 }
 
 // The line of a block, and its objects if its kind is known.
 fn print_block(rt: &HostRuntime, g: Geometry, image: &[u8], block: u32) {
     let scan = blocks::scan::scan_block(g, image, block);
     print_record(rt, block, scan);
-    let BlockInfoRead::Got(info) = scan else {
-        return;
-    };
-    let header = info.header;
-    let kind = header.kind;
-    if kind.is_known() {
-        print_objects(rt, g, image, block);
+    if let Ok(info) = scan {
+        if info.header.kind.is_known() {
+            print_objects(rt, g, image, block);
+        }
     }
 }
 
 fn print_image(rt: &HostRuntime, g: Geometry, image: &[u8]) {
-    let count = g.count;
-    let mut block = 0;
-    while block < count {
+    for block in 0..g.count {
         print_block(rt, g, image, block);
-        block += 1;
     }
 }
 
 fn inspect(rt: &HostRuntime, geometry: &[u8], image: &[u8]) {
     let mut buffer = [0; 65536];
-    let loaded = files::load(rt, geometry, image, &mut buffer);
-    match loaded {
-        Loaded::Failed => {}
-        Loaded::Refused(k) => print_refusal(rt, k),
-        Loaded::Ready(g, n) => print_image(rt, g, &buffer[..n]),
+    match files::load(rt, geometry, image, &mut buffer) {
+        Ok((g, n)) => print_image(rt, g, &buffer[..n]),
+        Err(LoadError::Refused(refusal)) => print_refusal(rt, refusal),
+        Err(LoadError::Failed) => {}
     }
 }
 

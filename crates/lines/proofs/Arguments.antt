@@ -6,12 +6,15 @@ use mathlib.Core.List.{List, [], ◌∷◌}
 use native.Mathlib.Numerals.{add-one}
 use lib.ListN.{length, drop, get_or}
 use lib.Seq.{drop-cons}
+use mathlib.Core.Bool.{and-false}
+use mathlib.Core.Logic.{⊎_elim}
+use Rattle.std.specs.Char.{IsAsciiDigit, IsNotAsciiDigit}
 use borrow.Author.Tests.{le-leb, lt-leb}
-use Rattle.lines.specs.declared.argument.NumberRead.TheVariants.{Got, Refused}
+use Rattle.std.specs.Prelude.{Some, None}
 use Rattle.lines.specs.Argument.{with_digit, number_from, number_of}
 
 -- with no digit
-pub none : (s : List ℕ) → length s ≡ 0 → number_of s ≡ Refused
+pub none : (s : List ℕ) → length s ≡ 0 → number_of s ≡ None
 unfolding number_of
 none [] h = refl
 none (b ∷ bs) h = absurd (omega arith)
@@ -26,23 +29,26 @@ module _ (n : ℕ) (s : List ℕ) (i : ℕ) (h : i < length s) where
   next : number_from n (drop i s) ≡ number_from n (get_or s i 0 ∷ drop (suc i) s)
   next = rw (drop-cons s i 0)
 
-  pub low : get_or s i 0 < 48 → number_from n (drop i s) ≡ Refused
+  below : get_or s i 0 < 48 → number_from n (drop i s) ≡ None
   unfolding number_from
-  low l = next ∙ simp (lt-leb _ _ l)
+  below l = next ∙ simp (lt-leb _ _ l)
 
-  pub high : 48 ≤ get_or s i 0 → 57 < get_or s i 0 → number_from n (drop i s) ≡ Refused
+  above : 57 < get_or s i 0 → number_from n (drop i s) ≡ None
   unfolding number_from
-  high l m = next ∙ simp (le-leb _ _ l, lt-leb _ _ m)
+  above l = next ∙ simp (lt-leb _ _ l, and-false)
 
-  pub large : 48 ≤ get_or s i 0 → get_or s i 0 ≤ 57 → 4294967295 < with_digit n (get_or s i 0) → number_from n (drop i s) ≡ Refused
+  pub no_digit : IsNotAsciiDigit (get_or s i 0) → number_from n (drop i s) ≡ None
+  no_digit l = ⊎_elim below above l
+
+  pub large : IsAsciiDigit (get_or s i 0) → 4294967295 < with_digit n (get_or s i 0) → number_from n (drop i s) ≡ None
   unfolding number_from
-  large l m k = next ∙ simp (le-leb _ _ l, le-leb _ _ m, lt-leb _ _ k)
+  large d k = next ∙ simp (le-leb _ _ d.0, le-leb _ _ d.1, lt-leb _ _ k)
 
-  pub step : 48 ≤ get_or s i 0 → get_or s i 0 ≤ 57 → with_digit n (get_or s i 0) ≤ 4294967295 → number_from n (drop i s) ≡ number_from (with_digit n (get_or s i 0)) (drop (i + 1) s)
+  pub step : IsAsciiDigit (get_or s i 0) → with_digit n (get_or s i 0) ≤ 4294967295 → number_from n (drop i s) ≡ number_from (with_digit n (get_or s i 0)) (drop (i + 1) s)
   unfolding number_from
-  step l m k = next ∙ simp (le-leb _ _ l, le-leb _ _ m, le-leb _ _ k) (rw (add-one i))
+  step d k = next ∙ simp (le-leb _ _ d.0, le-leb _ _ d.1, le-leb _ _ k) (rw (add-one i))
 
-pub whole : (n : ℕ) (s : List ℕ) (i : ℕ) → length s ≤ i → number_from n (drop i s) ≡ Got n
+pub whole : (n : ℕ) (s : List ℕ) (i : ℕ) → length s ≤ i → number_from n (drop i s) ≡ Some n
 unfolding number_from
 whole n [] zero h = refl
 whole n [] (suc i) h = refl

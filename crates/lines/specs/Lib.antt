@@ -1,5 +1,4 @@
 pub mod Digits
-pub mod Put
 pub mod Words
 pub mod Lines
 pub mod Argument

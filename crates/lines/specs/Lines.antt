@@ -1,15 +1,13 @@
 -- The lines. What the inspector prints of a block: "kind, erase count, used bytes, allocation yes or no"; of an object: "block, offset, type, state, payload size or `-` if unset". Refusals: "refused" and 01's
 -- number. What a move under a fuse leaves: fuse, answer, original, copy, and whether they agree.
-use Rattle.std.specs.Prelude.{ℕ, List, [], ◌∷◌, ◌++◌, Bool}
+use Rattle.std.specs.Prelude.{ℕ, List, [], ◌∷◌, ◌++◌, Bool, Option, Some, None, Result, Ok, Err}
+use Rattle.medium.specs.declared.refusal.Refusal.{Refusal}
+use Rattle.medium.specs.Refusal.{refusal_number}
 use Rattle.objects.specs.declared.header.ObjectHeader.{ObjectHeader}
-use Rattle.objects.specs.declared.info.InfoRead.{InfoRead}
-use Rattle.objects.specs.declared.info.InfoRead.TheVariants as seen
 use Rattle.objects.specs.declared.state.ObjectState.TheVariants.{Free}
 use Rattle.objects.specs.Types.{state_of}
 use Rattle.objects.specs.Header.{payload_size_of}
 use Rattle.blocks.specs.declared.record.BlockInfo.{BlockInfo}
-use Rattle.blocks.specs.declared.record.BlockInfoRead.{BlockInfoRead}
-use Rattle.blocks.specs.declared.record.BlockInfoRead.TheVariants as scan
 use Rattle.lines.specs.declared.moment.Twin.{Twin}
 use Rattle.lines.specs.declared.moment.Twin.TheVariants as twin
 use Rattle.lines.specs.Digits.{digits}
@@ -42,11 +40,11 @@ record_text r =
     ++ field (yes_no r.allow_alloc)
 
 -- "Refused blocks print that line alone"
-unfoldable pub scan_text : BlockInfoRead → List ℕ
-scan_text (scan.Got r) = record_text r
-scan_text (scan.Refused k) = refusal_text k
+unfoldable pub scan_text : Result BlockInfo Refusal → List ℕ
+scan_text (Ok r) = record_text r
+scan_text (Err e) = refusal_text (refusal_number e)
 
-unfoldable pub block_line : ℕ → BlockInfoRead → List ℕ
+unfoldable pub block_line : ℕ → Result BlockInfo Refusal → List ℕ
 block_line b r = block_word ++ field (digits b) ++ scan_text r ++ newline
 
 -- ---- an object
@@ -86,21 +84,24 @@ copy_word = 99 ∷ 111 ∷ 112 ∷ 121 ∷ []
 abbrev pub agree_word : List ℕ
 agree_word = 97 ∷ 103 ∷ 114 ∷ 101 ∷ 101 ∷ []
 
-unfoldable pub reading_text : ℕ → InfoRead → List ℕ
-reading_text s (seen.Found h) = header_text s h
-reading_text s seen.Free = field (state_word Free)
-reading_text s (seen.Refused k) = refusal_text k
+abbrev pub Seen : Type 0
+Seen = Result (Option ObjectHeader) Refusal
+
+unfoldable pub reading_text : ℕ → Seen → List ℕ
+reading_text s (Ok (Some h)) = header_text s h
+reading_text s (Ok None) = field (state_word Free)
+reading_text s (Err e) = refusal_text (refusal_number e)
 
 abbrev pub call_text : ℕ → ℕ → List ℕ
 call_text fuse answer = fuse_word ++ field (digits fuse) ++ field answer_word ++ field (digits answer)
 
-abbrev pub pair_text : ℕ → InfoRead → InfoRead → List ℕ
+abbrev pub pair_text : ℕ → Seen → Seen → List ℕ
 pair_text s original copy = field original_word ++ reading_text s original ++ field copy_word ++ reading_text s copy
 
 abbrev pub agree_text : Bool → List ℕ
 agree_text agree = field agree_word ++ field (yes_no agree) ++ newline
 
-unfoldable pub moment_line : ℕ → ℕ → ℕ → InfoRead → InfoRead → Bool → List ℕ
+unfoldable pub moment_line : ℕ → ℕ → ℕ → Seen → Seen → Bool → List ℕ
 moment_line s fuse answer original copy agree = call_text fuse answer ++ pair_text s original copy ++ agree_text agree
 
 -- ---- the moment of the twin

@@ -1,13 +1,11 @@
 -- The words of the lines. A field begins with a space.
-use Rattle.std.specs.Prelude.{ℕ, List, [], ◌∷◌, Bool, true, false}
+use Rattle.std.specs.Prelude.{ℕ, List, [], ◌∷◌, Bool, true, false, Option, Some, None}
 use Rattle.objects.specs.declared.types.ObjectType.{ObjectType}
 use Rattle.objects.specs.declared.types.ObjectType.TheVariants.{FileMetadata, FileData, FileName}
 use Rattle.objects.specs.declared.state.ObjectState.{ObjectState}
 use Rattle.objects.specs.declared.state.ObjectState.TheVariants.{Free, Allocated, Finalized, Deleted}
 use Rattle.objects.specs.declared.state.CompositeObjectState.{CompositeObjectState}
 use Rattle.objects.specs.declared.state.CompositeObjectState.TheVariants as comp
-use Rattle.objects.specs.declared.header.PayloadSize.{PayloadSize}
-use Rattle.objects.specs.declared.header.PayloadSize.TheVariants.{Set, Unset}
 use Rattle.blocks.specs.declared.header.BlockType.{BlockType}
 use Rattle.blocks.specs.declared.header.BlockType.TheVariants.{Metadata, Data, Undefined}
 use Rattle.blocks.specs.declared.header.BlockHeaderKind.{BlockHeaderKind}
@@ -39,9 +37,9 @@ state_word Finalized = 70 ∷ 105 ∷ 110 ∷ 97 ∷ 108 ∷ 105 ∷ 122 ∷ 101
 state_word Deleted = 68 ∷ 101 ∷ 108 ∷ 101 ∷ 116 ∷ 101 ∷ 100 ∷ []  -- Deleted
 
 -- "payload size or `-` if unset"
-unfoldable pub size_text : PayloadSize → List ℕ
-size_text (Set n) = digits n
-size_text Unset = nothing
+unfoldable pub size_text : Option ℕ → List ℕ
+size_text (Some n) = digits n
+size_text None = nothing
 
 unfoldable pub yes_no : Bool → List ℕ
 yes_no true = 121 ∷ 101 ∷ 115 ∷ []  -- yes

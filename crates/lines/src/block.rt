@@ -1,68 +1,73 @@
 // The line of a block.
-ghost use Rattle.std.specs.Prelude.{◌+◌, ◌≤◌, length};
-ghost use Rattle.lines.specs.Put.{Put, Line};
+ghost use Rattle.std.specs.Prelude.{◌≡◌, ◌+◌, ◌≤◌, ◌++◌, length};
 ghost use Rattle.lines.specs.Words.{field, block_type_word, kind_word};
 ghost use Rattle.lines.specs.Lines.{record_text, scan_text, block_line};
 
+use crate::line::Line;
 use crate::{number, refusal, words};
 use blocks::header::{BlockHeaderKind, BlockType};
-use blocks::record::{BlockInfo, BlockInfoRead};
+use blocks::record::BlockInfo;
+use medium::refusal::Refusal;
 
-fn put_block_type(buffer: &mut [u8], at: usize, t: BlockType) -> usize
-    requires { at + 10 ≤ length buffer.old }
-    ensures put { Put (field (block_type_word t)) buffer.old at buffer.new result }
-    ensures upper_bound { result ≤ at + 10 }
+#[tactic(auto, unfolding(crate::specs::Words::block_type_word))]
+fn put_block_type(line: &mut Line, t: BlockType)
+    requires { length line.old + 10 ≤ 128 }
+    ensures put { line.new ≡ line.old ++ field (block_type_word t) }
+    ensures upper_bound { length line.new ≤ length line.old + 10 }
 {
     match t {
-        BlockType::Metadata => words::put_word(buffer, at, b" Metadata"),
-        BlockType::Data => words::put_word(buffer, at, b" Data"),
-        BlockType::Undefined => words::put_word(buffer, at, b" Undefined"),
+        BlockType::Metadata => line.put(b" Metadata"),
+        BlockType::Data => line.put(b" Data"),
+        BlockType::Undefined => line.put(b" Undefined"),
     }
 }
 
-fn put_kind(buffer: &mut [u8], at: usize, kind: BlockHeaderKind) -> usize
-    requires { at + 10 ≤ length buffer.old }
-    ensures put { Put (field (kind_word kind)) buffer.old at buffer.new result }
-    ensures upper_bound { result ≤ at + 10 }
+#[tactic(auto, unfolding(crate::specs::Words::kind_word))]
+fn put_kind(line: &mut Line, kind: BlockHeaderKind)
+    requires { length line.old + 10 ≤ 128 }
+    ensures put { line.new ≡ line.old ++ field (kind_word kind) }
+    ensures upper_bound { length line.new ≤ length line.old + 10 }
 {
     match kind {
-        BlockHeaderKind::Empty => words::put_word(buffer, at, b" Empty"),
-        BlockHeaderKind::Unknown => words::put_word(buffer, at, b" Unknown"),
-        BlockHeaderKind::Known(t) => put_block_type(buffer, at, t),
+        BlockHeaderKind::Empty => line.put(b" Empty"),
+        BlockHeaderKind::Unknown => line.put(b" Unknown"),
+        BlockHeaderKind::Known(t) => put_block_type(line, t),
     }
 }
 
 // Kind, erase count, used bytes, allocation yes or no.
-fn put_record(buffer: &mut [u8], at: usize, info: BlockInfo) -> usize
-    requires { at + 36 ≤ length buffer.old }
-    ensures put { Put (record_text info) buffer.old at buffer.new result }
-    ensures upper_bound { result ≤ at + 36 }
+fn put_record(line: &mut Line, info: BlockInfo)
+    requires { length line.old + 36 ≤ 128 }
+    ensures put { line.new ≡ line.old ++ record_text info }
+    ensures upper_bound { length line.new ≤ length line.old + 36 }
 {
-    let header = info.header;
-    let kind = header.kind;
-    let named = put_kind(buffer, at, kind);
-    let erased = number::put_field(buffer, named, header.erase_count);
-    let used = number::put_field(buffer, erased, info.used_bytes);
-    words::put_yes_no(buffer, used, info.allow_alloc)
+    put_kind(line, info.header.kind);
+    number::put_field(line, info.header.erase_count);
+    number::put_field(line, info.used_bytes);
+    words::put_yes_no(line, info.allow_alloc)
 }
 
-fn put_scan(buffer: &mut [u8], at: usize, scan: BlockInfoRead) -> usize
-    requires { at + 36 ≤ length buffer.old }
-    ensures put { Put (scan_text scan) buffer.old at buffer.new result }
-    ensures upper_bound { result ≤ at + 36 }
+#[tactic(auto, unfolding(crate::specs::Lines::scan_text))]
+fn put_scan(line: &mut Line, scan: Result<BlockInfo, Refusal>)
+    requires { length line.old + 36 ≤ 128 }
+    ensures put { line.new ≡ line.old ++ scan_text scan }
+    ensures upper_bound { length line.new ≤ length line.old + 36 }
 {
     match scan {
-        BlockInfoRead::Got(info) => put_record(buffer, at, info),
-        BlockInfoRead::Refused(k) => refusal::put_refusal(buffer, at, k),
+        Ok(info) => put_record(line, info),
+        Err(e) => refusal::put_refusal(line, e),
     }
 }
 
 // "block", its number, and what a scan of it gave.
-pub fn block_line(line: &mut [u8; 128], block: u32, scan: BlockInfoRead) -> usize
-    ensures { Line (block_line block scan) line.old line.new result }
+#[tactic(auto, unfolding(crate::specs::Lines::block_line))]
+pub fn block_line(block: u32, scan: Result<BlockInfo, Refusal>) -> Line
+    ensures { result ≡ block_line block scan }
 {
-    let named = words::put_word(line, 0, b"block");
-    let numbered = number::put_field(line, named, block);
-    let told = put_scan(line, numbered, scan);
-    words::put_word(line, told, b"\n")
+    let mut line = Line::new();
+    line.put(b"block");
+    number::put_field(&mut line, block);
+    put_scan(&mut line, scan);
+    line.put(b"\n");
+    line
 }

@@ -1,10 +1,12 @@
-// Lines of text: what the programs print, each line built in a lent buffer of 128 bytes, and numbers read from arguments.
+// Lines of text: what the programs print, and numbers read from arguments.
 //
-// A line function answers how many bytes the line has, with its line end. Every line fits: the longest has 126 bytes.
+// A line has its line end, and no heap under it. Every line fits: the longest has 126 bytes. The words are put by functions and not by Display,
+// since a contract says each byte of them.
 #![tactic(auto)]
 
 pub mod argument;
 pub mod block;
+pub mod line;
 pub mod moment;
 mod number;
 pub mod object;

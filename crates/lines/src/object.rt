@@ -1,40 +1,41 @@
 // The line of an object.
-ghost use Rattle.std.specs.Prelude.{◌+◌, ◌≤◌, length};
-ghost use Rattle.lines.specs.Put.{Put, Line};
+ghost use Rattle.std.specs.Prelude.{◌≡◌, ◌+◌, ◌≤◌, ◌++◌, length};
 ghost use Rattle.lines.specs.Lines.{header_text, place_text, object_line};
 
+use crate::line::Line;
 use crate::{number, words};
 use objects::header::ObjectHeader;
 
 // Type, state and payload size, of a size field of s bytes.
-pub(crate) fn put_header(buffer: &mut [u8], at: usize, s: u8, h: ObjectHeader) -> usize
-    requires { at + 34 ≤ length buffer.old }
-    ensures put { Put (header_text s h) buffer.old at buffer.new result }
-    ensures upper_bound { result ≤ at + 34 }
+pub(crate) fn put_header(line: &mut Line, s: u8, h: ObjectHeader)
+    requires { length line.old + 34 ≤ 128 }
+    ensures put { line.new ≡ line.old ++ header_text s h }
+    ensures upper_bound { length line.new ≤ length line.old + 34 }
 {
-    let state = h.state;
-    let typed = words::put_type_of(buffer, at, state);
-    let stated = words::put_state(buffer, typed, state.state());
-    words::put_size(buffer, stated, h.payload_size(s))
+    words::put_type_of(line, h.state);
+    words::put_state(line, h.state.state());
+    words::put_size(line, h.payload_size(s))
 }
 
 // Block and offset.
-fn put_place(buffer: &mut [u8], at: usize, h: ObjectHeader) -> usize
-    requires { at + 22 ≤ length buffer.old }
-    ensures put { Put (place_text h) buffer.old at buffer.new result }
-    ensures upper_bound { result ≤ at + 22 }
+fn put_place(line: &mut Line, h: ObjectHeader)
+    requires { length line.old + 22 ≤ 128 }
+    ensures put { line.new ≡ line.old ++ place_text h }
+    ensures upper_bound { length line.new ≤ length line.old + 22 }
 {
-    let place = h.location;
-    let block = number::put_field(buffer, at, place.block);
-    number::put_field(buffer, block, place.offset)
+    number::put_field(line, h.location.block);
+    number::put_field(line, h.location.offset)
 }
 
 // "object", block, offset, type, state, payload size or `-`.
-pub fn object_line(line: &mut [u8; 128], s: u8, h: ObjectHeader) -> usize
-    ensures { Line (object_line s h) line.old line.new result }
+#[tactic(auto, unfolding(crate::specs::Lines::object_line))]
+pub fn object_line(s: u8, h: ObjectHeader) -> Line
+    ensures { result ≡ object_line s h }
 {
-    let named = words::put_word(line, 0, b"object");
-    let placed = put_place(line, named, h);
-    let told = put_header(line, placed, s, h);
-    words::put_word(line, told, b"\n")
+    let mut line = Line::new();
+    line.put(b"object");
+    put_place(&mut line, h);
+    put_header(&mut line, s, h);
+    line.put(b"\n");
+    line
 }

@@ -1,25 +1,30 @@
 // The line of a refusal.
-ghost use Rattle.std.specs.Prelude.{◌+◌, ◌≤◌, length};
-ghost use Rattle.lines.specs.Put.{Put, Line};
+ghost use Rattle.std.specs.Prelude.{◌≡◌, ◌+◌, ◌≤◌, ◌++◌, length};
+ghost use Rattle.medium.specs.Refusal.{refusal_number};
 ghost use Rattle.lines.specs.Lines.{refusal_text, refusal_line};
 
-use crate::{number, words};
+use crate::line::Line;
+use crate::number;
+use medium::refusal::Refusal;
 
 // "refused" and 01's number, as a field of a line.
-pub(crate) fn put_refusal(buffer: &mut [u8], at: usize, k: u8) -> usize
-    requires { at + 19 ≤ length buffer.old }
-    ensures put { Put (refusal_text k) buffer.old at buffer.new result }
-    ensures upper_bound { result ≤ at + 19 }
+pub(crate) fn put_refusal(line: &mut Line, refusal: Refusal)
+    requires { length line.old + 19 ≤ 128 }
+    ensures put { line.new ≡ line.old ++ refusal_text (refusal_number refusal) }
+    ensures upper_bound { length line.new ≤ length line.old + 19 }
 {
-    let named = words::put_word(buffer, at, b" refused");
-    number::put_field(buffer, named, k as u32)
+    line.put(b" refused");
+    number::put_field(line, refusal.number() as u32)
 }
 
 // "refused" and 01's number, as a line of its own.
-pub fn refusal_line(line: &mut [u8; 128], k: u8) -> usize
-    ensures { Line (refusal_line k) line.old line.new result }
+#[tactic(auto, unfolding(crate::specs::Lines::refusal_line))]
+pub fn refusal_line(k: u8) -> Line
+    ensures { result ≡ refusal_line k }
 {
-    let named = words::put_word(line, 0, b"refused");
-    let told = number::put_field(line, named, k as u32);
-    words::put_word(line, told, b"\n")
+    let mut line = Line::new();
+    line.put(b"refused");
+    number::put_field(&mut line, k as u32);
+    line.put(b"\n");
+    line
 }

@@ -11,8 +11,10 @@ use lib.Seq.{get_or-set_other}
 use lib.Dec.{leb}
 use Rattle.medium.specs.declared.fuse.Fuse.{Fuse}
 use Rattle.medium.specs.declared.fuse.Fuse.TheVariants.{Absent, Units}
-use Rattle.medium.specs.declared.fuse.Stored.{Stored}
-use Rattle.medium.specs.declared.fuse.Stored.TheVariants.{Done, Refused}
+use Rattle.medium.specs.Fuse.{Stored}
+use Rattle.medium.specs.declared.fuse.Stopped.{Stopped}
+use Rattle.medium.specs.Refusal.{refusal_number}
+use Rattle.std.specs.Prelude.{Ok, Err}
 use Rattle.medium.specs.All.{All}
 use Rattle.medium.specs.Units.{FlashUnit, step}
 use Rattle.medium.specs.Operation.{flash, happen, cost, prefix, done, refused, Run, OpIn, Op, ◌>>=◌, putting, End, EndIn, cut_by, cut, run, ended_by}
@@ -39,7 +41,7 @@ units_happen : (us : List FlashUnit) (i t : List ℕ) → happen beside (units u
 units_happen [] i t = refl
 units_happen (u ∷ us) i t = units_happen us (step u i) t
 
-abbrev with_table : {A : Type 0} → List ℕ → End A → EndIn Both A
+abbrev pub with_table : {A : Type 0} → List ℕ → End A → EndIn Both A
 with_table t e = record { answer = e.answer; fuse = e.fuse; state = both e.state t }
 
 cut_image : {A : Type 0} (f : Fuse) (r : Run flash A) (i t : List ℕ)
@@ -52,7 +54,7 @@ cut_image {A} (Units k) r i t = rw (units_cost r.events) (go (leb (cost flash r.
     go false = rw (units_prefix k r.events, units_happen (prefix flash k r.events) i t)
 
 -- a run of an operation on the image leaves the table
-run_image : {A : Type 0} (f : Fuse) (o : Op A) (i t : List ℕ) → run f (on_image o) (both i t) ≡ with_table t (run f o i)
+pub run_image : {A : Type 0} (f : Fuse) (o : Op A) (i t : List ℕ) → run f (on_image o) (both i t) ≡ with_table t (run f o i)
 unfolding run on_image
 run_image f o i t = cut_image f (o i) i t
 
@@ -61,15 +63,15 @@ pub lifted : {A : Type 0} (f : Fuse) (o : Op A) (i i' t : List ℕ) (r : Stored)
 lifted {A} f o i i' t r a e = go r ∙ ap (λ (x : End A). with_table t x) e ∙ sym (run_image f o i t)
   where
     go : (r : Stored) → ended_by r a (both i' t) ≡ with_table t (ended_by r a i')
-    go (Done f) = refl
-    go (Refused n f) = refl
+    go (Ok f) = refl
+    go (Err s) = refl
 
 -- a caller's steps
 module _ {A B : Type 0} (f : Fuse) (o : Op A) (k : A → OpIn beside B) (i i' t : List ℕ) (r : Stored) (a : A) (f' : Fuse) (e : ended_by r a i' ≡ run f o i) where
-  pub image_on : r ≡ Done f' → run f (on_image o >>= k) (both i t) ≡ run f' (k a) (both i' t)
+  pub image_on : r ≡ Ok f' → run f (on_image o >>= k) (both i t) ≡ run f' (k a) (both i' t)
   image_on d = on f (on_image o) k (both i t) (both i' t) r a f' (lifted f o i i' t r a e) d
 
-  pub image_stop : {n : ℕ} → r ≡ Refused n f' → run f (on_image o >>= k) (both i t) ≡ record { answer = refused n; fuse = f'; state = both i' t }
+  pub image_stop : {s : Stopped} → r ≡ Err s → run f (on_image o >>= k) (both i t) ≡ record { answer = refused (refusal_number s.refusal); fuse = s.fuse; state = both i' t }
   image_stop d = stop f (on_image o) k (both i t) (both i' t) r a f' (lifted f o i i' t r a e) d
 
 -- what it leaves with power, and its answer

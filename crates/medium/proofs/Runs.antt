@@ -9,12 +9,14 @@ use native.Mathlib.Omega.{arith}
 use lib.ListN.{length, take}
 use Rattle.medium.specs.Granularity.{pick}
 use Rattle.medium.specs.Units.{FlashUnit, step}
-use Rattle.medium.specs.Operation.{apply, World, flash, happen, cost, prefix, OpIn, EndIn, or_refuse, Answer, done, refused, Run, follow, ◌>>=◌, ask, test, cut_by, cut, run, next, ended_by}
+use Rattle.medium.specs.Operation.{apply, World, flash, happen, cost, prefix, OpIn, EndIn, or_refuse, Answer, done, refused, Run, follow, ◌>>=◌, ask, test, cut_by, cut, run, next, ended_by, ended_with}
 use lib.Dec.{leb, T, leb→le, le→leb, nleb→lt}
 use Rattle.medium.specs.declared.fuse.Fuse.{Fuse}
 use Rattle.medium.specs.declared.fuse.Fuse.TheVariants.{Absent, Units}
-use Rattle.medium.specs.declared.fuse.Stored.{Stored}
-use Rattle.medium.specs.declared.fuse.Stored.TheVariants.{Done, Refused}
+use Rattle.medium.specs.Fuse.{Stored}
+use Rattle.medium.specs.declared.fuse.Stopped.{Stopped}
+use Rattle.medium.specs.Refusal.{refusal_number}
+use Rattle.std.specs.Prelude.{Result, Ok, Err}
 
 -- two lists of units, one after the other
 pub apply-append : (us vs : List FlashUnit) (img : List ℕ) → apply (us ++ vs) img ≡ apply vs (apply us img)
@@ -105,9 +107,9 @@ prefix_flash (suc k) [] = refl
 prefix_flash zero (u ∷ us) = refl
 prefix_flash (suc k) (u ∷ us) = ap (λ (l : List FlashUnit). u ∷ l) (prefix_flash k us)
 
-on_with : {W : World} {B : Type 0} (k : ℕ) (us : List W.Event) (r : Run W B) (s : W.State) → cost W us ≤ k
+on_events : {W : World} {B : Type 0} (k : ℕ) (us : List W.Event) (r : Run W B) (s : W.State) → cost W us ≤ k
     → cut {W = W} (Units k) (record { events = us ++ r.events; answer = r.answer }) s ≡ cut (Units (k - cost W us)) r (happen W us s)
-on_with {W} {B} k us r s h = go (leb_is (cost W r.events) (k - cost W us))
+on_events {W} {B} k us r s h = go (leb_is (cost W r.events) (k - cost W us))
   where
     go : (cost W r.events ≤ k - cost W us) ⊎ (k - cost W us < cost W r.events)
         → cut {W = W} (Units k) (record { events = us ++ r.events; answer = r.answer }) s ≡ cut (Units (k - cost W us)) r (happen W us s)
@@ -136,7 +138,7 @@ seq_cut {W = W} {A = A} {B} (Units k) us (done x) p s = go (leb_is (cost W us) k
   where
     go : (cost W us ≤ k) ⊎ (k < cost W us)
         → cut {W = W} (Units k) (follow us (done x) p s) s ≡ next (cut {W = W} (Units k) (record { events = us; answer = done x }) s) (λ x f' i. run f' (p x) i)
-    go (inl h) = rw (leb_yes h) (on_with {W = W} k us (p x (happen W us s)) s h)
+    go (inl h) = rw (leb_yes h) (on_events {W = W} k us (p x (happen W us s)) s h)
     go (inr h) = rw (leb_no h) (stopped {W = W} k us (p x (happen W us s)) s h)
 seq_cut {W = W} {A = A} {B} (Units k) us (refused n) p s = go (leb (cost W us) k)
   where
@@ -164,12 +166,21 @@ run_ask f q img = run_ask_in flash f q img
 
 module _ {W : World} {A B : Type 0} (f : Fuse) (o : OpIn W A) (k : A → OpIn W B) (img i : W.State) (r : Stored) (a : A) (f' : Fuse) (e : ended_by r a i ≡ run f o img) where
   -- the step was done: go on with its value, its fuse and its state
-  pub on : r ≡ Done f' → run f (o >>= k) img ≡ run f' (k a) i
+  pub on : r ≡ Ok f' → run f (o >>= k) img ≡ run f' (k a) i
   on d = run_bind f o k img ∙ rw (← e, d)
 
   -- it was refused: so is the whole
-  pub stop : {n : ℕ} → r ≡ Refused n f' → run f (o >>= k) img ≡ record { answer = refused n; fuse = f'; state = i }
+  pub stop : {s : Stopped} → r ≡ Err s → run f (o >>= k) img ≡ record { answer = refused (refusal_number s.refusal); fuse = s.fuse; state = i }
   stop d = run_bind f o k img ∙ rw (← e, d)
+
+-- ---- and for a store that hands a value on
+
+module _ {W : World} {A B : Type 0} (f : Fuse) (o : OpIn W A) (k : A → OpIn W B) (img i : W.State) (r : Result (A × Fuse) Stopped) (e : ended_with r i ≡ run f o img) where
+  pub on_with : {x : A × Fuse} → r ≡ Ok x → run f (o >>= k) img ≡ run x.1 (k x.0) i
+  on_with d = run_bind f o k img ∙ rw (← e, d)
+
+  pub stop_with : {s : Stopped} → r ≡ Err s → run f (o >>= k) img ≡ record { answer = refused (refusal_number s.refusal); fuse = s.fuse; state = i }
+  stop_with d = run_bind f o k img ∙ rw (← e, d)
 
 -- ---- and for a question that is asked of the image
 
@@ -206,7 +217,7 @@ module _ {W : World} {B : Type 0} (f : Fuse) (q : W.State → ℕ) (k : Unit {0}
 -- ---- the value that a run gave is the operation's
 
 -- where the call is done, its value is the answer of the operation
-pub value_of : {W : World} {A : Type 0} (f : Fuse) (o : OpIn W A) (img i : W.State) (r : Stored) (a : A) (f' : Fuse) → ended_by r a i ≡ run f o img → r ≡ Done f' → (o img).answer ≡ done a
+pub value_of : {W : World} {A : Type 0} (f : Fuse) (o : OpIn W A) (img i : W.State) (r : Stored) (a : A) (f' : Fuse) → ended_by r a i ≡ run f o img → r ≡ Ok f' → (o img).answer ≡ done a
 unfolding run
 value_of {W} {A} f o img i r a f' e d = go f (sym (rw d at e))
   where

@@ -5,25 +5,22 @@ use Prim.Native.Nat.{ℕ, zero, suc, ◌+◌, ◌-◌, ◌*◌, ◌≤◌, ◌<�
 use native.Mathlib.Nat.{le_refl, not-suc-le-zero, le_of_suc-le-suc, mul-le-mul_right, one-mul, zero-mul}
 use native.Mathlib.Numerals.{add-one}
 use native.Mathlib.Omega.{arith}
-use mathlib.Core.List.{List, [], ◌∷◌, ◌++◌, append-nil}
+use mathlib.Core.List.{List, [], ◌∷◌, ◌++◌}
 use mathlib.Core.Bool.{Bool, true, false}
-use lib.ListN.{length, get_or, take, drop, set, length-take, length-drop}
-use lib.Seq.{take-take, drop-length, take_all}
+use lib.ListN.{length, get_or, take, drop, set, length-take, length-drop, replicate}
+use lib.Seq.{take_all}
 use lib.Dec.{leb}
 use lib.Bits.{bit_and}
 use borrow.Author.Tests.{leb-false, eq-eqb, ne_eqb}
 use Rattle.medium.specs.declared.geometry.Geometry.{Geometry}
-use Rattle.medium.specs.declared.fuse.Spent.{Spent}
-use Rattle.medium.specs.declared.fuse.Stored.{Stored}
 use Rattle.medium.specs.declared.fuse.Fuse.{Fuse}
 use Rattle.medium.specs.declared.fuse.Fuse.TheVariants.{Absent, Units}
-use Rattle.medium.specs.declared.fuse.Spent.TheVariants.{Enough, Short}
+use Rattle.std.specs.Prelude.{Result, Ok, Err}
 use Rattle.medium.specs.Granularity.{pick, width_of, units_in}
-use Rattle.medium.specs.Fuse.{spend_of, granted_of, stored_of}
+use Rattle.medium.specs.Fuse.{Stored, spend_of, granted_of, stored_of}
 use Rattle.medium.specs.Units.{FlashUnit, under, blank, units_of, erased}
 use Rattle.medium.specs.Operation.{flash, cost, apply, done, refused, putting, cut_by, cut, run, ended}
 use Rattle.medium.specs.Medium.{part, onto, readable, erasable, writable, storable, read_at, write, erase}
-use Rattle.medium.specs.declared.fuse.Stored.TheVariants.{Refused}
 use Rattle.medium.proofs.Runs.{cost_flash, prefix_flash, run_ask, leb_yes, leb_no, leb_is}
 use Rattle.medium.proofs.Bytes.{units_cut, length_units}
 use Rattle.medium.proofs.Places.{width_is}
@@ -80,6 +77,11 @@ blank_split zero xs = refl
 blank_split (suc n) [] = refl
 blank_split (suc n) (x ∷ xs) = ap (λ (l : List ℕ). 255 ∷ l) (blank_split n xs)
 
+-- all of it is as many bytes FF
+pub blank_all : (xs : List ℕ) → blank (length xs) xs ≡ replicate (length xs) 255
+blank_all [] = refl
+blank_all (x ∷ xs) = ap (λ (l : List ℕ). 255 ∷ l) (blank_all xs)
+
 -- ---- the part of the image that a call lends
 
 -- no more units than were asked for
@@ -88,7 +90,7 @@ unfolding spend_of
 spent_le Absent n = omega arith
 spent_le (Units k) n = go (leb n k) refl
   where
-    go : (t : Bool) → leb n k ≡ t → granted_of (pick t (Enough (Units (k - n))) (Short k)) n ≤ n
+    go : (t : Bool) → leb n k ≡ t → granted_of (pick t (Ok (Units (k - n))) (Err k)) n ≤ n
     go true e = omega arith
     go false e = omega (arith, leb-false n k e)
 
@@ -97,7 +99,7 @@ pub write_few : (g : Geometry) (room b o n r w k : ℕ) → r ≡ writable g roo
 write_few g room b o n r w k e z ew ek = rw (ek, ew) (write_at g room b o n r e z).few
 
 -- the bytes of those units that there is power for lie within the image
-pub write_part : (g : Geometry) (room b o n r w k : ℕ) (f : Fuse) (p : Spent) (u : ℕ) → r ≡ writable g room b o n → r ≡ 0 → w ≡ width_of g.granularity → k ≡ units_in w n → p ≡ spend_of f k → u ≡ granted_of p k → b * g.size + o + u * w ≤ room
+pub write_part : (g : Geometry) (room b o n r w k : ℕ) (f : Fuse) (p : Result Fuse ℕ) (u : ℕ) → r ≡ writable g room b o n → r ≡ 0 → w ≡ width_of g.granularity → k ≡ units_in w n → p ≡ spend_of f k → u ≡ granted_of p k → b * g.size + o + u * w ≤ room
 write_part g room b o n r w k f p u e z ew ek ep eu =
     let h = (write_at g room b o n r e z).ends in
     let m : u * w ≤ k * w = rw (eu, ep) (mul-le-mul_right w (spent_le f k)) in
@@ -105,7 +107,7 @@ write_part g room b o n r w k f p u e z ew ek ep eu =
     omega arith
 
 -- and so do those of an erase
-pub erase_part : (g : Geometry) (room b r : ℕ) (f : Fuse) (p : Spent) (u : ℕ) → r ≡ erasable g room b → r ≡ 0 → p ≡ spend_of f 1 → u ≡ granted_of p 1 → b * g.size + u * g.size ≤ room
+pub erase_part : (g : Geometry) (room b r : ℕ) (f : Fuse) (p : Result Fuse ℕ) (u : ℕ) → r ≡ erasable g room b → r ≡ 0 → p ≡ spend_of f 1 → u ≡ granted_of p 1 → b * g.size + u * g.size ≤ room
 erase_part g room b r f p u e z ep eu =
     let h = erase_at g room b r e z in
     let m : u * g.size ≤ 1 * g.size = rw (eu, ep) (mul-le-mul_right g.size (spent_le f 1)) in
@@ -121,12 +123,12 @@ put_under f split a n k xs last e h q =
     rw (q, e, l) (sym (under_split a (f n) xs h' ∙ ap (λ (t : List ℕ). take a xs ++ t) (split n (drop a xs))))
 
 -- a test that refuses leaves the fuse and the image
-pub write_refused : (g : Geometry) (image : List ℕ) (f : Fuse) (b o : ℕ) (d : List ℕ) (r : ℕ) → r ≡ storable g b o d image → (r ≡ 0 → ⊥) → ended (Refused r f) image ≡ run f (write g b o d) image
+pub write_refused : (g : Geometry) (image : List ℕ) (f : Fuse) (b o : ℕ) (d : List ℕ) (r : ℕ) → r ≡ storable g b o d image → (r ≡ 0 → ⊥) → record { answer = refused r; fuse = f; state = image } ≡ run f (write g b o d) image
 unfolding write run
 write_refused g image f b o d r e h = rw (← e, ne_eqb _ _ h) (sym (run_ask f (λ _. refused r) image))
 
 -- of an erase too
-pub erase_refused : (g : Geometry) (image : List ℕ) (f : Fuse) (b r : ℕ) → r ≡ erasable g (length image) b → (r ≡ 0 → ⊥) → ended (Refused r f) image ≡ run f (erase g b) image
+pub erase_refused : (g : Geometry) (image : List ℕ) (f : Fuse) (b r : ℕ) → r ≡ erasable g (length image) b → (r ≡ 0 → ⊥) → record { answer = refused r; fuse = f; state = image } ≡ run f (erase g b) image
 unfolding erase run
 erase_refused g image f b r e h = rw (← e, ne_eqb _ _ h) (sym (run_ask f (λ _. refused r) image))
 
@@ -145,8 +147,8 @@ put_run (Units k) w hw a d img = go (leb_is (units_in w (length d)) k)
     n = units_in w (length d)
 
     go : (units_in w (length d) ≤ k) ⊎ (k < units_in w (length d))
-        → ended (stored_of (pick (leb (units_in w (length d)) k) (Enough (Units (k - units_in w (length d)))) (Short k)))
-        (under a (onto (granted_of (pick (leb (units_in w (length d)) k) (Enough (Units (k - units_in w (length d)))) (Short k)) (units_in w (length d)) * w) d) img)
+        → ended (stored_of (pick (leb (units_in w (length d)) k) (Ok (Units (k - units_in w (length d)))) (Err k)))
+        (under a (onto (granted_of (pick (leb (units_in w (length d)) k) (Ok (Units (k - units_in w (length d)))) (Err k)) (units_in w (length d)) * w) d) img)
         ≡ cut_by {W = flash} (leb (cost flash (units_of w a d)) k) k (record { events = units_of w a d; answer = done tt }) img
     go (inl h) =
         let l : length (units_of w a d) ≡ units_in w (length d) = length_units w a d in
@@ -161,13 +163,13 @@ put_run (Units k) w hw a d img = go (leb_is (units_in w (length d)) k)
         rw (m, leb_no h, prefix_flash k (units_of w a d), t)
 
 -- what a write leaves whose tests were passed
-pub write_done : (g : Geometry) (image : List ℕ) (f : Fuse) (b o : ℕ) (d : List ℕ) (r w n : ℕ) (p : Spent) (u : ℕ) (q : Stored) (after : List ℕ) → r ≡ storable g b o d image → r ≡ 0 → w ≡ width_of g.granularity → n ≡ units_in w (length d) → p ≡ spend_of f n → u ≡ granted_of p n → q ≡ stored_of p → after ≡ under (b * g.size + o) (onto (u * w) d) image → ended q after ≡ run f (write g b o d) image
+pub write_done : (g : Geometry) (image : List ℕ) (f : Fuse) (b o : ℕ) (d : List ℕ) (r w n : ℕ) (p : Result Fuse ℕ) (u : ℕ) (q : Stored) (after : List ℕ) → r ≡ storable g b o d image → r ≡ 0 → w ≡ width_of g.granularity → n ≡ units_in w (length d) → p ≡ spend_of f n → u ≡ granted_of p n → q ≡ stored_of p → after ≡ under (b * g.size + o) (onto (u * w) d) image → ended q after ≡ run f (write g b o d) image
 unfolding write run
 write_done g image f b o d r w n p u q after e z ew en ep eu eq ea =
     rw (← e, eq-eqb r 0 z, ea, eq, eu, ep, en, ew) (put_run f (width_of g.granularity) (width_is g.granularity).0 (b * g.size + o) d image)
 
 -- what an erase leaves
-pub erase_done : (g : Geometry) (image : List ℕ) (f : Fuse) (b r : ℕ) (p : Spent) (u : ℕ) (q : Stored) (after : List ℕ) → r ≡ erasable g (length image) b → r ≡ 0 → p ≡ spend_of f 1 → u ≡ granted_of p 1 → q ≡ stored_of p → after ≡ under (b * g.size) (blank (u * g.size)) image → ended q after ≡ run f (erase g b) image
+pub erase_done : (g : Geometry) (image : List ℕ) (f : Fuse) (b r : ℕ) (p : Result Fuse ℕ) (u : ℕ) (q : Stored) (after : List ℕ) → r ≡ erasable g (length image) b → r ≡ 0 → p ≡ spend_of f 1 → u ≡ granted_of p 1 → q ≡ stored_of p → after ≡ under (b * g.size) (blank (u * g.size)) image → ended q after ≡ run f (erase g b) image
 unfolding erase run putting spend_of
 erase_done g image f b r p u q after e z ep eu eq ea = rw (← e, eq-eqb r 0 z, ea, eq, eu, ep) (go f)
   where
@@ -195,9 +197,3 @@ erase_run g b img e = rw e
 pub read_done : (g : Geometry) (image : List ℕ) (b o n r : ℕ) (after : List ℕ) → r ≡ readable g (length image) b o n → r ≡ 0 → after ≡ take n (drop (b * g.size + o) image) → done after ≡ read_at g b o n image
 unfolding read_at
 read_done g image b o n r after e z ea = rw (← e, eq-eqb r 0 z, ea)
-
--- the buffer that a read fills
-pub copied : (a k : ℕ) (image buffer last : List ℕ) → k ≡ length buffer → a + length buffer ≤ length image → last ≡ take (length (take k (drop a image))) (take k (drop a image)) ++ drop (length (take k (drop a image))) buffer → last ≡ take (length buffer) (drop a image)
-copied a k image buffer last e h q =
-    let l : length (take (length buffer) (drop a image)) ≡ length buffer = simp (length-take, length-drop) (omega arith) in
-    q ∙ rw (e, l, take-take (length buffer) (length buffer) (drop a image) (le_refl (length buffer)), drop-length buffer) (append-nil (take (length buffer) (drop a image)))

@@ -5,7 +5,7 @@ use mathlib.Core.Logic.{◌⊎◌, inl, inr}
 use mathlib.Core.Bool.{Bool, true, false, ◌&&◌, ◌||◌, false≢true, and-false}
 use mathlib.Core.List.{List, [], ◌∷◌, ◌++◌}
 use Prim.Native.Nat.{ℕ, zero, suc, ◌+◌, ◌-◌, ◌*◌, ◌/◌, ◌%◌, ◌≤◌, ◌<◌, min}
-use native.Mathlib.Nat.{le_of_suc-le-suc, mul-add-div_right, div-eq_of_lt, suc-mul, sub-zero, zero-add}
+use native.Mathlib.Nat.{div-mul-le_self, lt-div-mul-add, mul-le-mul, le_of_suc-le-suc, mul-add-div_right, div-eq_of_lt, suc-mul, sub-zero, zero-add}
 use native.Mathlib.Numerals.{add-one}
 use native.Mathlib.Omega.{arith}
 use lib.ListN.{length, get_or, take, drop, replicate, length-append, length-replicate, length-take, length-drop}
@@ -221,6 +221,21 @@ storable_looked g b o bs img r w n t e z on ew en et =
     storable_next g b o bs img (sym e ∙ z) ∙ rw (eq-eqb _ _ on, u)
 
 -- ---- a turn of the loop
+
+-- unit k of the bytes begins before their end
+pub unit_within : (w n k : ℕ) → 0 < w → k < units_in w n → k * w < n
+unit_within w n k hw h =
+    let a : suc k * w ≤ units_in w n * w = mul-le-mul h (omega arith) in
+    let b : units_in w n * w ≤ n + (w - 1) = div-mul-le_self (n + (w - 1)) w in
+    let c : suc k * w ≡ k * w + w = suc-mul k w in
+    omega arith
+
+-- and behind the last unit there is nothing
+pub unit_behind : (w n k : ℕ) → 0 < w → units_in w n ≤ k → n ≤ k * w
+unit_behind w n k hw h =
+    let a : units_in w n * w ≤ k * w = mul-le-mul h (omega arith) in
+    let b : n + (w - 1) < units_in w n * w + w = lt-div-mul-add hw in
+    omega arith
 
 -- bytes of which there are some take a unit more than those behind the first unit
 pub units_turn : (w n : ℕ) → 0 < w → 0 < n → units_in w n ≡ suc (units_in w (n - w))

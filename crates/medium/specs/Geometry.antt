@@ -4,10 +4,8 @@
 use Rattle.std.specs.Prelude.{ℕ, ◌+◌, ◌*◌, ◌%◌, ◌^◌, Bool, ◌&&◌, List, get_or, leb, eqb}
 use Rattle.medium.specs.declared.granularity.Granularity.{Granularity}
 use Rattle.medium.specs.declared.geometry.Geometry.{Geometry}
-use Rattle.medium.specs.declared.geometry.GeometryRead.{GeometryRead}
-use Rattle.medium.specs.declared.geometry.GeometryRead.TheVariants as geometry
 use Rattle.medium.specs.Granularity.{pick, granularity_of, most_strict}
-use Rattle.medium.specs.Answer.{Answer, done, refused, and_then, number_of}
+use Rattle.medium.specs.Answer.{Answer, done, refused, and_then}
 
 -- 256^w for a width that is allowed, and 0 for any other
 abbrev pub limit_of : ℕ → ℕ
@@ -36,13 +34,6 @@ abbrev pub address : Geometry → ℕ → ℕ → ℕ
 address g b o = b * g.size + o
 
 -- ---- a geometry in six numbers, as the geometry record has them: granularity, s, c, strict mark, block size, block count
-
-abbrev pub geometry_answer : GeometryRead → Answer Geometry
-geometry_answer (geometry.Got g) = done g
-geometry_answer (geometry.Refused n) = refused n
-
-abbrev pub geometry_number : GeometryRead → ℕ
-geometry_number r = number_of (geometry_answer r)
 
 -- the first four are bytes
 unfoldable pub fields_hold : List ℕ → Bool

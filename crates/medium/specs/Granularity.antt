@@ -3,8 +3,6 @@ use Rattle.std.specs.Prelude.{ℕ, ◌+◌, ◌-◌, ◌*◌, ◌/◌, Bool, tru
 use Rattle.medium.specs.Answer.{Answer, done, refused}
 use Rattle.medium.specs.declared.granularity.Granularity.{Granularity}
 use Rattle.medium.specs.declared.granularity.Granularity.TheVariants.{Bit, Word1, Word4}
-use Rattle.medium.specs.declared.granularity.GranularityRead.{GranularityRead}
-use Rattle.medium.specs.declared.granularity.GranularityRead.TheVariants as read
 
 -- the first where the test holds, else the second
 abbrev pub pick : {A : Type 0} → Bool → A → A → A
@@ -34,14 +32,6 @@ byte_of Word4 = 4
 
 unfoldable pub granularity_of : ℕ → Answer Granularity
 granularity_of b = pick (eqb b 0) (done Bit) (pick (eqb b 1) (done Word1) (pick (eqb b 4) (done Word4) (refused 6)))
-
-abbrev pub granularity_answer : GranularityRead → Answer Granularity
-granularity_answer (read.Got k) = done k
-granularity_answer (read.Refused n) = refused n
-
-abbrev pub granularity_number : GranularityRead → ℕ
-granularity_number (read.Got k) = 0
-granularity_number (read.Refused n) = n
 
 -- ---- "A unit is one byte, or one four-byte word under Word(4)."
 

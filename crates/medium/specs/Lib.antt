@@ -1,5 +1,6 @@
 pub mod All
 pub mod Answer
+pub mod Refusal
 pub mod Granularity
 pub mod Aligned
 pub mod Geometry

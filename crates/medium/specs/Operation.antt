@@ -1,14 +1,12 @@
 -- An operation is what it stores with power, as a list of events, and its answer. The fuse cuts that list, here and nowhere else.
 -- The state and its events are a `World`: `flash` is the image with its units. `do` joins operations.
-use Rattle.std.specs.Prelude.{Bool, true, false, List, [], ◌∷◌, ◌++◌, ℕ, zero, suc, ◌-◌, leb}
+use Rattle.std.specs.Prelude.{Result, Ok, Err, Bool, true, false, List, [], ◌∷◌, ◌++◌, ℕ, zero, suc, ◌-◌, leb}
 use Rattle.medium.specs.declared.fuse.Fuse.{Fuse}
 use Rattle.medium.specs.declared.fuse.Fuse.TheVariants.{Absent, Units}
-use Rattle.medium.specs.declared.fuse.Stored.{Stored}
-use Rattle.medium.specs.declared.fuse.Stored.TheVariants as stored
-use Rattle.medium.specs.declared.fuse.Answered.{Answered}
-use Rattle.medium.specs.declared.fuse.Answered.TheVariants as heard
-use Rattle.medium.specs.declared.geometry.Counted.{Counted}
-use Rattle.medium.specs.declared.geometry.Counted.TheVariants as count
+use Rattle.medium.specs.declared.refusal.Refusal.{Refusal}
+use Rattle.medium.specs.Refusal.{refusal_number}
+use Rattle.medium.specs.declared.fuse.Stopped.{Stopped}
+use Rattle.medium.specs.Fuse.{Stored}
 pub use Rattle.medium.specs.Answer.{Answer, done, refused, and_then, or_refuse, number_of}
 use Rattle.medium.specs.Granularity.{pick}
 use Rattle.medium.specs.Units.{FlashUnit, step}
@@ -115,29 +113,27 @@ next e k = next_by e.answer e.fuse e.state k
 
 -- a store that gives a where it is done
 abbrev pub ended_by : {S A : Type 0} → Stored → A → S → EndIn S A
-ended_by (stored.Done f) a i = record { answer = done a; fuse = f; state = i }
-ended_by (stored.Refused n f) a i = record { answer = refused n; fuse = f; state = i }
+ended_by (Ok f) a i = record { answer = done a; fuse = f; state = i }
+ended_by (Err s) a i = record { answer = refused (refusal_number s.refusal); fuse = s.fuse; state = i }
 
 abbrev pub ended : {S : Type 0} → Stored → S → EndIn S (Unit {0})
 ended r i = ended_by r tt i
 
-abbrev pub answered : {A : Type 0} → Answered → A → Answer A
-answered heard.Done a = done a
-answered (heard.Refused n) a = refused n
+-- a store that hands a value on where it is done
+abbrev pub ended_with : {S A : Type 0} → Result (A × Fuse) Stopped → S → EndIn S A
+ended_with (Ok x) i = record { answer = done x.0; fuse = x.1; state = i }
+ended_with (Err s) i = record { answer = refused (refusal_number s.refusal); fuse = s.fuse; state = i }
 
-abbrev pub counted : Counted → Answer ℕ
-counted (count.Bytes n) = done n
-counted (count.Refused k) = refused k
-
-abbrev pub counted_number : Counted → ℕ
-counted_number (count.Bytes n) = 0
-counted_number (count.Refused k) = k
+-- an answer that gives a where it is done
+abbrev pub answered : {A : Type 0} → Result (Unit {0}) Refusal → A → Answer A
+answered (Ok u) a = done a
+answered (Err e) a = refused (refusal_number e)
 
 -- the second where the call is done, else the first
-abbrev pub unless_done : {A : Type 0} → Answered → A → A → A
-unless_done heard.Done a b = b
-unless_done (heard.Refused n) a b = a
+abbrev pub unless_done : {A : Type 0} → Result (Unit {0}) Refusal → A → A → A
+unless_done (Ok u) a b = b
+unless_done (Err e) a b = a
 
 abbrev pub unless_stored : {A : Type 0} → Stored → A → A → A
-unless_stored (stored.Done f) a b = b
-unless_stored (stored.Refused n f) a b = a
+unless_stored (Ok f) a b = b
+unless_stored (Err s) a b = a

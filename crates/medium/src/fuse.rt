@@ -1,86 +1,87 @@
 // The fuse: how many more units may be programmed before the power goes. And what a store answers.
 ghost use Rattle.std.specs.Prelude.{◌≡◌};
-ghost use Rattle.medium.specs.Fuse.{spend_of, granted_of, stored_of, stored_number, answered_number};
+ghost use Rattle.medium.specs.Fuse.{spend_of, granted_of, stored_of, stored_number, kept_by};
 
-#[derive(Clone, Copy)]
+use crate::refusal::Refusal;
+
+// No Option: None would read as no power left, and Absent means that it never goes.
+#[derive(Clone, Copy, Debug, PartialEq, Eq)]
 pub enum Fuse {
     Absent,
     Units(u32),
 }
 
-// What a store leaves: done, with the fuse to go on with, or refused with 01's number.
-#[derive(Clone, Copy)]
-pub enum Stored {
-    Done(Fuse),
-    Refused(u8, Fuse),
+// A refusal of a store, and the fuse that is left.
+#[derive(Clone, Copy, Debug, PartialEq, Eq)]
+pub struct Stopped {
+    pub refusal: Refusal,
+    pub fuse: Fuse,
 }
 
-impl Stored {
-    pub fn number(self) -> u8
-        ensures { result ≡ stored_number self }
+// What a store leaves: the fuse to go on with, or why it stopped.
+pub type Stored = Result<Fuse, Stopped>;
+
+// The same of a store that hands a value on.
+pub type Ended<T> = Result<(T, Fuse), Stopped>;
+
+impl Fuse {
+    // An answer that took no power, with this fuse beside a refusal.
+    pub fn beside<T: Copy>(self, answer: Result<T, Refusal>) -> Result<T, Stopped>
+        ensures { result ≡ kept_by self answer }
     {
-        match self {
-            Stored::Done(_) => 0,
-            Stored::Refused(k, _) => k,
+        match answer {
+            Ok(value) => Ok(value),
+            Err(refusal) => Err(Stopped {
+                refusal: refusal,
+                fuse: self,
+            }),
         }
     }
 }
 
-// What a call that stores nothing answers.
-#[derive(Clone, Copy)]
-pub enum Answered {
-    Done,
-    Refused(u8),
-}
-
-impl Answered {
-    pub fn number(self) -> u8
-        ensures { result ≡ answered_number self }
-    {
-        match self {
-            Answered::Done => 0,
-            Answered::Refused(k) => k,
-        }
+// The number of a store's answer: 0 where it is done.
+pub fn number(answer: Stored) -> u8
+    ensures { result ≡ stored_number answer }
+{
+    match answer {
+        Ok(_) => 0,
+        Err(stopped) => stopped.refusal.number(),
     }
 }
 
-// Enough for all that was asked, with the fuse that is left, or for fewer units.
-#[derive(Clone, Copy)]
-pub enum Spent {
-    Enough(Fuse),
-    Short(u32),
-}
-
-// What a store of n units gets of the fuse.
-pub(crate) fn spend(f: Fuse, n: u32) -> Spent
+// What a store of n units gets of the fuse: all, with the fuse that is left, or fewer units.
+pub(crate) fn spend(f: Fuse, n: u32) -> Result<Fuse, u32>
     ensures { result ≡ spend_of f n }
 {
     let Fuse::Units(k) = f else {
-        return Spent::Enough(f);
+        return Ok(f);
     };
     if n <= k {
-        Spent::Enough(Fuse::Units(k - n))
+        Ok(Fuse::Units(k - n))
     } else {
-        Spent::Short(k)
+        Err(k)
     }
 }
 
 // Of n units, those that there is power for.
-pub(crate) fn granted(p: Spent, n: u32) -> u32
-    ensures { result ≡ granted_of p n }
+pub(crate) fn granted(spent: Result<Fuse, u32>, n: u32) -> u32
+    ensures { result ≡ granted_of spent n }
 {
-    match p {
-        Spent::Enough(_) => n,
-        Spent::Short(k) => k,
+    match spent {
+        Ok(_) => n,
+        Err(k) => k,
     }
 }
 
 // All n were stored, or the power was lost.
-pub(crate) fn outcome(p: Spent) -> Stored
-    ensures { result ≡ stored_of p }
+pub(crate) fn outcome(spent: Result<Fuse, u32>) -> Stored
+    ensures { result ≡ stored_of spent }
 {
-    match p {
-        Spent::Enough(f) => Stored::Done(f),
-        Spent::Short(_) => Stored::Refused(8, Fuse::Units(0)),
+    match spent {
+        Ok(fuse) => Ok(fuse),
+        Err(_) => Err(Stopped {
+            refusal: Refusal::PowerLost,
+            fuse: Fuse::Units(0),
+        }),
     }
 }

@@ -1,30 +1,15 @@
 // How finely the chip is programmed, and every length and place that follows from it. One column of document 01's tables each.
 ghost use Rattle.std.specs.Prelude.{◌≡◌, ◌^◌, ◌≤◌, ◌<◌};
-ghost use Rattle.medium.specs.Granularity.{granularity_of, granularity_answer, granularity_number, widest_unit, byte_of, width_of, units_in, align_of, most_strict, finish_at, delete_at, finish_mark, size_at, header, block_header, type_at, layout_bit};
+ghost use Rattle.medium.specs.Refusal.{answer_of};
+ghost use Rattle.medium.specs.Granularity.{granularity_of, widest_unit, byte_of, width_of, units_in, align_of, most_strict, finish_at, delete_at, finish_mark, size_at, header, block_header, type_at, layout_bit};
 
-#[derive(Clone, Copy)]
+use crate::refusal::Refusal;
+
+#[derive(Clone, Copy, Debug, PartialEq, Eq)]
 pub enum Granularity {
     Bit,
     Word1,
     Word4,
-}
-
-// What a granularity byte says.
-#[derive(Clone, Copy)]
-pub enum GranularityRead {
-    Got(Granularity),
-    Refused(u8),
-}
-
-impl GranularityRead {
-    pub fn number(self) -> u8
-        ensures { result ≡ granularity_number self }
-    {
-        match self {
-            GranularityRead::Got(_) => 0,
-            GranularityRead::Refused(k) => k,
-        }
-    }
 }
 
 // The most that any granularity takes, for buffers that hold each: a unit, the bytes of an object's state, an object header, a block header.
@@ -45,25 +30,32 @@ impl Granularity {
     pub const WORD1: u8 = 1;
 
     pub const WORD4: u8 = 4;
+}
 
-    pub fn of_byte(b: u8) -> GranularityRead
-        ensures { granularity_answer result ≡ granularity_of b }
-    {
+// 6 for a byte that says none.
+impl TryFrom<u8> for Granularity {
+    type Error = Refusal;
+
+    ghost try_from_gives = { λ b r. answer_of r ≡ granularity_of b };
+
+    fn try_from(b: u8) -> Result<Self, Refusal> {
         match b {
-            Self::BIT => GranularityRead::Got(Granularity::Bit),
-            Self::WORD1 => GranularityRead::Got(Granularity::Word1),
-            Self::WORD4 => GranularityRead::Got(Granularity::Word4),
-            _ => GranularityRead::Refused(6),
+            Self::BIT => Ok(Granularity::Bit),
+            Self::WORD1 => Ok(Granularity::Word1),
+            Self::WORD4 => Ok(Granularity::Word4),
+            _ => Err(Refusal::BadGeometry),
         }
     }
+}
 
-    pub fn byte(self) -> u8
-        ensures { result ≡ byte_of self }
-    {
-        match self {
-            Granularity::Bit => Self::BIT,
-            Granularity::Word1 => Self::WORD1,
-            Granularity::Word4 => Self::WORD4,
+impl From<Granularity> for u8 {
+    ghost from_gives = { λ k b. b ≡ byte_of k };
+
+    fn from(k: Granularity) -> u8 {
+        match k {
+            Granularity::Bit => Granularity::BIT,
+            Granularity::Word1 => Granularity::WORD1,
+            Granularity::Word4 => Granularity::WORD4,
         }
     }
 }

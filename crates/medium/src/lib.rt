@@ -8,62 +8,61 @@
 //
 // Always true: a refusal with 6, 7, 3 or 10 changes nothing; with 8 exactly the first units are stored; a read never needs power; no
 // call touches a byte outside the block that it names.
+//
+// Geometry, image and fuse go in side by side, here and above: a struct that held the lent image would have to say in each contract that it
+// still holds the same reference and the same geometry.
 #![tactic(auto)]
 
 pub mod fuse;
 pub mod geometry;
 pub mod granularity;
+pub mod refusal;
 
 ghost use Rattle.std.specs.Prelude.{◌≡◌, ◌&&◌, not, length, get_or, ◌+◌, ◌≤◌, ◌<◌};
 ghost use Rattle.medium.specs.Operation.{run, ended, answered, unless_done};
+ghost use Rattle.medium.specs.Refusal.{code_of};
 ghost use Rattle.medium.specs.Granularity.{widest_unit, align_of};
 ghost use Rattle.medium.specs.Units.{blank, units_of};
 ghost use Rattle.medium.specs.Strict.{all_ff, again_at, any_again};
 ghost use Rattle.medium.specs.Medium.{onto, writable, storable, erasable, readable, read_at, lent};
 
-use fuse::{Answered, Fuse, Stored};
+use fuse::{Fuse, Stored};
 use geometry::Geometry;
+use refusal::Refusal;
 
-// Why n bytes of a block cannot be read, or 0: 6, 7, or 3 where there is no such block or range. By a difference, so that a false length
+// Whether n bytes of a block can be read: 6, 7, or 3 where there is no such block or range. By a difference, so that a false length
 // cannot wrap.
-pub fn reach(g: Geometry, room: usize, block: u32, offset: usize, n: usize) -> u8
-    ensures { result ≡ readable g room block offset n }
+pub fn reach(g: Geometry, room: usize, block: u32, offset: usize, n: usize) -> Result<(), Refusal>
+    ensures { code_of result ≡ readable g room block offset n }
 {
-    let bad = geometry::check(g, room);
-    if bad != 0 {
-        return bad;
-    }
-    if g.count <= block {
-        return 3;
-    }
+    geometry::check(g, room)?;
     let size = g.size as usize;
+    if g.count <= block {
+        return Err(Refusal::Io);
+    }
     if size < offset {
-        return 3;
+        return Err(Refusal::Io);
     }
     if size - offset < n {
-        return 3;
+        return Err(Refusal::Io);
     }
-    0
+    Ok(())
 }
 
-// Why a write of n bytes is refused, or 0.
-fn may_write(g: Geometry, room: usize, block: u32, offset: usize, n: usize) -> u8
-    ensures { result ≡ writable g room block offset n }
+// Whether n bytes can be written.
+fn may_write(g: Geometry, room: usize, block: u32, offset: usize, n: usize) -> Result<(), Refusal>
+    ensures { code_of result ≡ writable g room block offset n }
 {
-    let bad = reach(g, room, block, offset, n);
-    if bad != 0 {
-        return bad;
-    }
-    let k = g.granularity;
-    let w = k.width();
+    reach(g, room, block, offset, n)?;
+    let w = g.granularity.width();
     if offset % w != 0 {
-        return 3;
+        return Err(Refusal::Io);
     }
     let taken = granularity::units(w, n) * w;
     if (g.size as usize) - offset < taken {
-        return 3;
+        return Err(Refusal::Io);
     }
-    0
+    Ok(())
 }
 
 // Whether a unit would be programmed again: neither its data nor the bytes that it meets are all FF.
@@ -93,60 +92,55 @@ fn meets(w: usize, old: &[u8], src: &[u8]) -> bool
     requires len { length old.now ≡ align_of w (length src.now) }
     ensures { result ≡ any_again (units_of w 0 src.now) old.now }
 {
-    let mut i = 0;
-    while i < src.len() {
-        if meets_at(w, old, src, i) {
+    for unit in 0..granularity::units(w, src.len()) {
+        if meets_at(w, old, src, unit * w) {
             return true;
         }
-        i += w;
     }
     false
 }
 
-// Why the bytes of src cannot be stored, or 0: as a write of so many, and under the strict mark 10.
-fn may_store(g: Geometry, image: &[u8], block: u32, offset: usize, src: &[u8]) -> u8
-    ensures { result ≡ storable g block offset src.now image.now }
+// Whether the bytes of src can be stored: as a write of so many, and under the strict mark 10.
+fn may_store(
+    g: Geometry,
+    image: &[u8],
+    block: u32,
+    offset: usize,
+    src: &[u8],
+) -> Result<(), Refusal>
+    ensures { code_of result ≡ storable g block offset src.now image.now }
 {
-    let bad = may_write(g, image.len(), block, offset, src.len());
-    if bad != 0 {
-        return bad;
-    }
+    may_write(g, image.len(), block, offset, src.len())?;
     if g.strict != 1 {
-        return 0;
+        return Ok(());
     }
-    let k = g.granularity;
-    let w = k.width();
+    let w = g.granularity.width();
     let at = (block as usize) * (g.size as usize) + offset;
     let n = granularity::units(w, src.len()) * w;
     if meets(w, &image[at..at + n], src) {
-        return 10;
+        return Err(Refusal::NotErased);
     }
-    0
+    Ok(())
 }
 
-fn may_erase(g: Geometry, room: usize, block: u32) -> u8
-    ensures { result ≡ erasable g room block }
+fn may_erase(g: Geometry, room: usize, block: u32) -> Result<(), Refusal>
+    ensures { code_of result ≡ erasable g room block }
 {
-    let bad = geometry::check(g, room);
-    if bad != 0 {
-        return bad;
-    }
+    geometry::check(g, room)?;
     if g.count <= block {
-        return 3;
+        return Err(Refusal::Io);
     }
-    0
+    Ok(())
 }
 
 // Whether every byte is FF.
 pub fn is_erased(part: &[u8]) -> bool
     ensures { result ≡ all_ff part.now }
 {
-    let mut i = 0;
-    while i < part.len() {
-        if part[i] != 0xFF {
+    for byte in part {
+        if *byte != 0xFF {
             return false;
         }
-        i += 1;
     }
     true
 }
@@ -162,21 +156,9 @@ fn padded(src: &[u8], i: usize) -> u8
 fn program(part: &mut [u8], src: &[u8])
     ensures { part.new ≡ onto (length part.old) src.now part.old }
 {
-    let mut i = 0;
-    while i < part.len() {
+    for i in 0..part.len() {
         let b = padded(src, i);
         part[i] = part[i] & b;
-        i += 1;
-    }
-}
-
-fn fill(part: &mut [u8])
-    ensures { part.new ≡ blank (length part.old) part.old }
-{
-    let mut i = 0;
-    while i < part.len() {
-        part[i] = 255;
-        i += 1;
     }
 }
 
@@ -184,27 +166,30 @@ fn fill(part: &mut [u8])
 pub fn lend(g: Geometry, image: &[u8], block: u32, offset: usize, n: usize) -> &[u8]
     ensures { result.now ≡ lent (read_at g block offset n image.now) }
 {
-    if reach(g, image.len(), block, offset, n) != 0 {
+    let Ok(()) = reach(g, image.len(), block, offset, n) else {
         return &image[..0];
-    }
+    };
     let at = (block as usize) * (g.size as usize) + offset;
     let end = at + n;
     &image[at..end]
 }
 
 // Copies a range of one block into the buffer, or refuses with 6, 7 or 3 and leaves the buffer as it was.
-pub fn read(g: Geometry, image: &[u8], block: u32, offset: usize, buffer: &mut [u8]) -> Answered
+pub fn read(
+    g: Geometry,
+    image: &[u8],
+    block: u32,
+    offset: usize,
+    buffer: &mut [u8],
+) -> Result<(), Refusal>
     ensures buffer_after { answered result buffer.new ≡ read_at g block offset (length buffer.old) image.now }
     ensures buffer_after_2 { buffer.new ≡ unless_done result buffer.old buffer.new }
 {
-    let bad = reach(g, image.len(), block, offset, buffer.len());
-    if bad != 0 {
-        return Answered::Refused(bad);
-    }
+    reach(g, image.len(), block, offset, buffer.len())?;
     let at = (block as usize) * (g.size as usize) + offset;
     let n = buffer.len();
     buffer.copy_from_slice(&image[at..at + n]);
-    Answered::Done
+    Ok(())
 }
 
 // Programs the bytes of src, or refuses with 6, 7, 3 or, under the strict mark, 10 and the image as it was, or 8 and what there was power
@@ -219,33 +204,24 @@ pub fn write(
 ) -> Stored
     ensures { ended result image.new ≡ run f (Rattle.medium.specs.Medium.write g block offset src.now) image.old }
 {
-    let bad = may_store(g, image, block, offset, src);
-    if bad != 0 {
-        return Stored::Refused(bad, f);
-    }
-    let k = g.granularity;
-    let w = k.width();
+    f.beside(may_store(g, image, block, offset, src))?;
+    let w = g.granularity.width();
     let wanted = granularity::units(w, src.len()) as u32;
-    let p = fuse::spend(f, wanted);
+    let spent = fuse::spend(f, wanted);
     let at = (block as usize) * (g.size as usize) + offset;
-    let u = fuse::granted(p, wanted);
-    let n = (u as usize) * w;
+    let n = (fuse::granted(spent, wanted) as usize) * w;
     program(&mut image[at..at + n], src);
-    fuse::outcome(p)
+    fuse::outcome(spent)
 }
 
 // Sets a block to FF, one unit.
 pub fn erase(g: Geometry, image: &mut [u8], f: Fuse, block: u32) -> Stored
     ensures { ended result image.new ≡ run f (Rattle.medium.specs.Medium.erase g block) image.old }
 {
-    let bad = may_erase(g, image.len(), block);
-    if bad != 0 {
-        return Stored::Refused(bad, f);
-    }
-    let p = fuse::spend(f, 1);
+    f.beside(may_erase(g, image.len(), block))?;
+    let spent = fuse::spend(f, 1);
     let at = (block as usize) * (g.size as usize);
-    let u = fuse::granted(p, 1);
-    let n = (u as usize) * (g.size as usize);
-    fill(&mut image[at..at + n]);
-    fuse::outcome(p)
+    let n = (fuse::granted(spent, 1) as usize) * (g.size as usize);
+    image[at..at + n].fill(0xFF);
+    fuse::outcome(spent)
 }

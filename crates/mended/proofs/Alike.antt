@@ -16,7 +16,8 @@ use Rattle.objects.specs.declared.types.ObjectType.{ObjectType}
 use Rattle.objects.specs.declared.header.ObjectHeader.{ObjectHeader}
 use Rattle.objects.specs.Payload.{payload_at, read_payload, same_bytes, same_payload}
 use Rattle.shown.specs.Whole.{Whole}
-use Rattle.sweep.specs.Twins.{type_in, is_twin}
+use Rattle.objects.specs.Types.{type_number}
+use Rattle.sweep.specs.Twins.{is_twin}
 use Rattle.objects.proofs.Equal.{equal_is, equal_refl}
 use Rattle.byname.proofs.Payloads.{part_read}
 use Rattle.sweep.proofs.Alike.{both_true}
@@ -32,7 +33,7 @@ whole_payload g o t pay img w =
 -- two of one type and payload are twins
 pub twin_by : (g : Geometry) (img : List ℕ) (a b : ObjectHeader) (bs : List ℕ) → a.state ≡ b.state → read_payload g a img ≡ done bs → read_payload g b img ≡ done bs → is_twin g img a b ≡ true
 unfolding is_twin same_payload
-twin_by g img a b bs e p q = rw (eq-eqb _ _ (ap type_in e), p, q) (equal_refl bs)
+twin_by g img a b bs e p q = rw (eq-eqb _ _ (ap type_number e), p, q) (equal_refl bs)
 
 -- they are so either way round
 same_turned : (x y : Answer (List ℕ)) → same_bytes x y ≡ true → same_bytes y x ≡ true
@@ -50,5 +51,5 @@ twin_turned g img a b e =
 pub twin_payload : (g : Geometry) (img : List ℕ) (a b : ObjectHeader) (bs : List ℕ) → is_twin g img a b ≡ true → read_payload g a img ≡ done bs → read_payload g b img ≡ done bs
 unfolding is_twin same_payload
 twin_payload g img a b bs e p =
-    let q = both_true (eqb (type_in a.state) (type_in b.state)) (same_bytes (read_payload g a img) (read_payload g b img)) e in
+    let q = both_true (eqb (type_number a.state) (type_number b.state)) (same_bytes (read_payload g a img) (read_payload g b img)) e in
     second_reads (read_payload g a img) (read_payload g b img) bs q.1 p

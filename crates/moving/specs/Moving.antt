@@ -14,17 +14,7 @@ use Rattle.objects.specs.Payload.{payload_at}
 use Rattle.objects.specs.Reader.{reader_at}
 use Rattle.writer.specs.declared.writer.ObjectWriter.{ObjectWriter}
 use Rattle.moving.specs.declared.source.Source.{Source}
-use Rattle.moving.specs.declared.source.SourceRead.{SourceRead}
-use Rattle.moving.specs.declared.source.SourceRead.TheVariants as source
 use Rattle.writer.specs.Writer.{allocate, write_some, finalize}
-
-abbrev pub source_answer : SourceRead → Answer Source
-source_answer (source.Got s) = done s
-source_answer (source.Refused n) = refused n
-
-abbrev pub source_number : SourceRead → ℕ
-source_number (source.Got s) = 0
-source_number (source.Refused n) = n
 
 -- the type is the handed-in header's: 4 where that is Free
 abbrev pub source_in : CompositeObjectState → ℕ → Answer Source

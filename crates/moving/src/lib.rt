@@ -6,53 +6,38 @@
 
 pub mod source;
 
-ghost use Rattle.std.specs.Prelude.{◌≡◌, ◌+◌, ◌≤◌, ◌<◌, ◌^◌, min, length};
-ghost use Rattle.medium.specs.Operation.{run, ended_by, unless_stored};
-ghost use Rattle.moving.specs.Moving.{source_answer, source_at, chunk, turns_of, copying, copy_object, move_object};
-ghost use Rattle.moving.specs.Steps.{small_source, write_copy};
+ghost use Rattle.std.specs.Prelude.{◌≡◌, ◌+◌, ◌≤◌, ◌<◌, ◌^◌, length, IfOk};
+ghost use Rattle.medium.specs.Operation.{run, ended_with};
+ghost use Rattle.medium.specs.Refusal.{answer_of};
+ghost use Rattle.moving.specs.Moving.{source_at, chunk, turns_of, copying, copy_object, move_object};
 
-use crate::source::{Source, SourceRead};
-use medium::fuse::{Answered, Fuse, Stored};
+use crate::source::Source;
+use medium::fuse::{Ended, Fuse};
 use medium::geometry::Geometry;
-use objects::header::{Headed, ObjectHeader};
+use medium::refusal::Refusal;
+use objects::header::ObjectHeader;
 use objects::location::ObjectLocation;
 use objects::payload;
-use objects::reader::{ObjectReader, ReaderRead};
+use objects::reader::ObjectReader;
 use objects::state::{CompositeObjectState, ObjectDataState};
-use writer::writer::{ObjectWriter, Writing};
+use writer::writer::ObjectWriter;
 
-// The object anew at another place, of the type that h says. After a refusal h comes back.
+// The object anew at another place, of the type that h says.
 pub fn copy_object(
     g: Geometry,
     image: &mut [u8],
     f: Fuse,
     h: ObjectHeader,
     to: ObjectLocation,
-) -> Headed
-    ensures image_after { ended_by result.answer result.header image.new ≡ run f (copy_object g h to) image.old }
-    ensures header_value { result.header ≡ unless_stored result.answer h result.header }
+) -> Ended<ObjectHeader>
+    ensures { ended_with result image.new ≡ run f (copy_object g h to) image.old }
 {
-    let got = find_source(g, image, h);
-    let SourceRead::Got(src) = got else {
-        return Headed {
-            answer: Stored::Refused(got.number(), f),
-            header: h,
-        };
-    };
-    let r = write_copy(g, image, f, h, to, src);
-    let a = r.answer;
-    let Stored::Done(_) = a else {
-        return Headed {
-            answer: a,
-            header: h,
-        };
-    };
-    let w = r.writer;
-    let new = w.object;
-    Headed {
-        answer: a,
-        header: new,
-    }
+    let src = f.beside(find_source(g, image, h))?;
+    let (w1, f1) = ObjectWriter::try_allocate(g, image, f, to, src.kind)?;
+    let from = payload::at(g, h);
+    let (w2, f2) = copy(g, image, f1, h.location.block, from, src.size, w1)?;
+    let (w3, f3) = w2.try_finalize(g, image, f2)?;
+    Ok((w3.object, f3))
 }
 
 // Copied, and then deleted where it was.
@@ -62,80 +47,28 @@ pub fn move_object(
     f: Fuse,
     h: ObjectHeader,
     to: ObjectLocation,
-) -> Headed
-    ensures image_after { ended_by result.answer result.header image.new ≡ run f (move_object g h to) image.old }
-    ensures header_value { result.header ≡ unless_stored result.answer h result.header }
+) -> Ended<ObjectHeader>
+    ensures { ended_with result image.new ≡ run f (move_object g h to) image.old }
 {
-    let one = copy_object(g, image, f, h, to);
-    let a1 = one.answer;
-    let Stored::Done(f1) = a1 else {
-        return Headed {
-            answer: a1,
-            header: h,
-        };
-    };
-    let new = one.header;
-    let two = h.set_state(g, image, f1, ObjectDataState::Deleted);
-    let a2 = two.answer;
-    let Stored::Done(_) = a2 else {
-        return Headed {
-            answer: a2,
-            header: h,
-        };
-    };
-    Headed {
-        answer: a2,
-        header: new,
-    }
+    let (new, f1) = copy_object(g, image, f, h, to)?;
+    let (_, f2) = h.set_state(g, image, f1, ObjectDataState::Deleted)?;
+    Ok((new, f2))
 }
 
 // The header is read again, and must be that of a finished object; h says the type.
-fn find_source(g: Geometry, image: &[u8], h: ObjectHeader) -> SourceRead
-    ensures result_value { source_answer result ≡ source_at g h image.now }
-    ensures small_source { small_source result }
+#[tactic(auto, unfolding(crate::specs::Moving::source_at))]
+fn find_source(g: Geometry, image: &[u8], h: ObjectHeader) -> Result<Source, Refusal>
+    ensures result_value { answer_of result ≡ source_at g h image.now }
+    ensures small_source { IfOk result (λ s. s.size ≤ 4294967295) }
 {
-    let at = h.location;
-    let got = ObjectReader::new(g, image, at, false);
-    let ReaderRead::Got(reader) = got else {
-        return SourceRead::Refused(got.number());
+    let reader = ObjectReader::new(g, image, h.location, false)?;
+    let CompositeObjectState::Allocated(t, _) = h.state else {
+        return Err(Refusal::InvalidOperation);
     };
-    let state = h.state;
-    let CompositeObjectState::Allocated(t, _) = state else {
-        return SourceRead::Refused(4);
-    };
-    let seen = reader.object;
-    let n = seen.payload(g.s);
-    SourceRead::Got(Source { kind: t, size: n })
-}
-
-// Writes the copy: type, payload, size and mark.
-fn write_copy(
-    g: Geometry,
-    image: &mut [u8],
-    f: Fuse,
-    h: ObjectHeader,
-    to: ObjectLocation,
-    src: Source,
-) -> Writing
-    requires { src.size ≤ 4294967295 }
-    ensures { ended_by result.answer result.writer image.new ≡ run f (write_copy g h to src) image.old }
-{
-    let t = src.kind;
-    let n = src.size;
-    let one = ObjectWriter::allocate(g, image, f, to, t);
-    let a1 = one.answer;
-    let Stored::Done(f1) = a1 else {
-        return one;
-    };
-    let w1 = one.writer;
-    let place = h.location;
-    let two = copy(g, image, f1, place.block, payload::at(g, h), n, w1);
-    let a2 = two.answer;
-    let Stored::Done(f2) = a2 else {
-        return two;
-    };
-    let w2 = two.writer;
-    w2.finalize(g, image, f2)
+    Ok(Source {
+        kind: t,
+        size: reader.object.payload(g.s),
+    })
 }
 
 // n payload bytes from a place of a block, 16 a turn.
@@ -147,36 +80,21 @@ fn copy(
     from: usize,
     n: usize,
     w: ObjectWriter,
-) -> Writing
+) -> Ended<ObjectWriter>
     requires { (n ≤ 4294967295) × (from < 2 ^ 33) }
-    ensures { ended_by result.answer result.writer image.new ≡ run f (copying (turns_of n) g block from n w) image.old }
+    ensures { ended_with result image.new ≡ run f (copying (turns_of n) g block from n w) image.old }
 {
     let turns = (n + 15) / 16;
     let mut fuse = f;
     let mut v = w;
-    let mut i = 0;
-    while i < turns {
+    for i in 0..turns {
         let done = 16 * i;
-        let m = least(16, n - done);
-        let r = copy_some(g, image, fuse, block, from + done, m, v);
-        let a = r.answer;
-        let Stored::Done(left) = a else {
-            return r;
-        };
+        let m = (n - done).min(16);
+        let (next, left) = copy_some(g, image, fuse, block, from + done, m, v)?;
+        v = next;
         fuse = left;
-        v = r.writer;
-        i += 1;
     }
-    Writing {
-        answer: Stored::Done(fuse),
-        writer: v,
-    }
-}
-
-fn least(a: usize, b: usize) -> usize
-    ensures { result ≡ min a b }
-{
-    if a < b { a } else { b }
+    Ok((v, fuse))
 }
 
 // At most 16 bytes, read from the image as it is by now.
@@ -188,9 +106,9 @@ fn copy_some(
     at: usize,
     n: usize,
     w: ObjectWriter,
-) -> Writing
+) -> Ended<ObjectWriter>
     requires { n ≤ 16 }
-    ensures { ended_by result.answer result.writer image.new ≡ run f (chunk g block at n w) image.old }
+    ensures { ended_with result image.new ≡ run f (chunk g block at n w) image.old }
 {
     let mut buffer = [0u8; 16];
     copy_by(g, image, f, block, at, w, &mut buffer[..n])
@@ -204,15 +122,9 @@ fn copy_by(
     at: usize,
     w: ObjectWriter,
     buffer: &mut [u8],
-) -> Writing
-    ensures { ended_by result.answer result.writer image.new ≡ run f (chunk g block at (length buffer.old) w) image.old }
+) -> Ended<ObjectWriter>
+    ensures { ended_with result image.new ≡ run f (chunk g block at (length buffer.old) w) image.old }
 {
-    let a = medium::read(g, image, block, at, buffer);
-    let Answered::Done = a else {
-        return Writing {
-            answer: Stored::Refused(a.number(), f),
-            writer: w,
-        };
-    };
-    w.write(g, image, f, buffer)
+    f.beside(medium::read(g, image, block, at, buffer))?;
+    w.try_write(g, image, f, buffer)
 }

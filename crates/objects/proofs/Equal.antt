@@ -1,14 +1,12 @@
--- Whether two lists are equal, an element a step.
-use native.Mathlib.Omega.{arith}
-use native.Mathlib.Numerals.{add-one}
-use Prim.Native.Nat.{ℕ, zero, suc, ◌+◌, ◌≤◌, ◌<◌}
-use mathlib.Core.Path.{◌≡◌, refl, ◌∙◌, ap, ap₂}
+-- Whether two lists are equal.
+use Prim.Native.Nat.{ℕ, suc}
+use mathlib.Core.Path.{◌≡◌, refl, ap, ap₂}
 use mathlib.Core.Bool.{Bool, true, false, ◌&&◌, and-false, false≢true}
 use mathlib.Core.List.{List, [], ◌∷◌}
-use lib.ListN.{length, drop, get_or}
-use lib.Seq.{drop-cons}
+use lib.ListN.{length}
 use lib.Dec.{eqb}
-use borrow.Author.Tests.{eqb-true, eq-eqb, ne_eqb}
+use borrow.Author.Tests.{eqb-true, eq-eqb}
+use lib.Pointwise.{pointwise}
 use Rattle.objects.specs.Payload.{equal}
 
 pub other_length : (a b : List ℕ) → (length a ≡ length b → ⊥) → equal a b ≡ false
@@ -18,25 +16,13 @@ other_length [] (y ∷ b) h = refl
 other_length (x ∷ a) [] h = refl
 other_length (x ∷ a) (y ∷ b) h = rw (other_length a b (λ e. h (ap suc e)), and-false)
 
-module _ (a b : List ℕ) (i : ℕ) (ha : i < length a) (hb : i < length b) where
-  heads : equal (drop i a) (drop i b) ≡ (eqb (get_or a i 0) (get_or b i 0) && equal (drop (suc i) a) (drop (suc i) b))
-  unfolding equal
-  heads = rw (drop-cons a i 0, drop-cons b i 0)
-
-  pub differ : (get_or a i 0 ≡ get_or b i 0 → ⊥) → equal (drop i a) (drop i b) ≡ false
-  differ h = heads ∙ simp (ne_eqb _ _ h)
-
-  pub step : get_or a i 0 ≡ get_or b i 0 → equal (drop i a) (drop i b) ≡ equal (drop (i + 1) a) (drop (i + 1) b)
-  step h = heads ∙ simp (eq-eqb _ _ h, add-one i)
-
-pub whole : (a b : List ℕ) (i : ℕ) → length a ≤ i → length a ≡ length b → equal (drop i a) (drop i b) ≡ true
+-- it is the library's comparison
+pub equal_pointwise : (a b : List ℕ) → pointwise eqb a b ≡ equal a b
 unfolding equal
-whole [] [] zero h e = refl
-whole [] [] (suc i) h e = refl
-whole [] (y ∷ b) i h e = absurd (omega arith)
-whole (x ∷ a) [] i h e = absurd (omega arith)
-whole (x ∷ a) (y ∷ b) zero h e = absurd (omega arith)
-whole (x ∷ a) (y ∷ b) (suc i) h e = whole a b i (omega arith) (omega arith)
+equal_pointwise [] [] = refl
+equal_pointwise [] (y ∷ b) = refl
+equal_pointwise (x ∷ a) [] = refl
+equal_pointwise (x ∷ a) (y ∷ b) = rw (equal_pointwise a b)
 
 pub equal_refl : (xs : List ℕ) → equal xs xs ≡ true
 unfolding equal

@@ -1,9 +1,10 @@
 pub mod Answers
+pub mod Tested
 pub mod NoType
+pub mod States
 pub mod Numbers
 pub mod Places
 pub mod Reading
-pub mod Readers
 pub mod Equal
 pub mod Payloads
 pub mod Listing

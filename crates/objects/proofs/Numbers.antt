@@ -1,30 +1,13 @@
 -- Numbers as bytes, low byte first.
-use mathlib.Core.Path.{◌≡◌, refl, sym, ap, ◌∙◌}
-use mathlib.Core.Bool.{and-false}
-use mathlib.Core.List.{List, [], ◌∷◌, ◌++◌, append-nil}
+use mathlib.Core.Path.{◌≡◌, refl, ap, ◌∙◌}
+use mathlib.Core.List.{List, [], ◌∷◌}
 use Prim.Native.Nat.{ℕ, zero, suc, ◌+◌, ◌-◌, ◌*◌, ◌/◌, ◌%◌, ◌^◌, ◌≤◌, ◌<◌}
 use native.Mathlib.Nat.{not-suc-le-zero, le_of_suc-le-suc}
 use native.Mathlib.Numerals.{add-one}
 use native.Mathlib.Omega.{arith}
-use lib.ListN.{length, get_or, take, drop, set, length-drop, length-append}
-use lib.Seq.{drop-cons, get_or-drop, take_all, take_at, drop_at, drop-length, length-take-le}
-use borrow.Author.Tests.{lt-leb}
-use Rattle.objects.specs.Numbers.{number, bytes, unset_of}
-
-pub unset_other : (s : ℕ) → (s ≡ 1 → ⊥) → (s ≡ 2 → ⊥) → (s ≡ 3 → ⊥) → 0 ≡ unset_of s
-unset_other zero a b c = refl
-unset_other (suc zero) a b c = absurd (a refl)
-unset_other (suc (suc zero)) a b c = absurd (b refl)
-unset_other (suc (suc (suc zero))) a b c = absurd (c refl)
-unset_other (suc (suc (suc (suc s)))) a b c = rw (lt-leb (suc (suc (suc (suc s)))) 3 (omega arith), and-false)
-
--- a turn of the loop that reads a number from its high end
-pub number_more : (raw : List ℕ) (i n : ℕ) → 0 < i → i ≤ length raw → n ≡ number (drop i raw) → n * 256 + get_or raw (i - 1) 0 ≡ number (drop (i - 1) raw)
-number_more raw i n p h e =
-    let k : suc (i - 1) ≡ i = omega arith in
-    let c : drop (i - 1) raw ≡ get_or raw (i - 1) 0 ∷ drop (suc (i - 1)) raw = drop-cons raw (i - 1) 0 (omega arith) in
-    let d : drop (suc (i - 1)) raw ≡ drop i raw = ap (λ (m : ℕ). drop m raw) k in
-    rw (c, d, ← e) (omega arith)
+use lib.ListN.{length, get_or, take, drop, set, length-drop}
+use lib.Seq.{get_or-drop, take_all}
+use Rattle.objects.specs.Numbers.{number, bytes}
 
 -- how far a number of few bytes can go
 abbrev pub reach : ℕ → ℕ
@@ -91,20 +74,3 @@ pub byte_bytes : (k n i : ℕ) → get_or (bytes k n) i 0 < 256
 byte_bytes zero n i = omega arith
 byte_bytes (suc k) n zero = omega arith
 byte_bytes (suc k) n (suc i) = byte_bytes k (n / 256) i
-
--- two numbers put one behind the other into a room of c + s bytes
-pub two_put : (c s m n : ℕ) (room p q : List ℕ) → length room ≡ c + s → p ≡ bytes (length (take c room)) m
-    → q ≡ bytes (length (take (length (p ++ drop c room) - c) (drop c (p ++ drop c room)))) n
-    → take c (p ++ drop c room) ++ (q ++ drop (length (p ++ drop c room) - c) (drop c (p ++ drop c room))) ≡ bytes c m ++ bytes s n
-two_put c s m n room p q e ep eq =
-    let t : length (take c room) ≡ c = length-take-le c room (omega arith) in
-    let p' : p ≡ bytes c m = ep ∙ ap (λ (k : ℕ). bytes k m) t in
-    let l : length p ≡ c = ap length p' ∙ length_bytes c m in
-    let r : length (drop c room) ≡ s = simp length-drop (omega arith) in
-    let w : length (p ++ drop c room) - c ≡ s = simp length-append (omega arith) in
-    let a : take c (p ++ drop c room) ≡ p = take_at p (drop c room) c l in
-    let b : drop c (p ++ drop c room) ≡ drop c room = drop_at p (drop c room) c l in
-    let z : take s (drop c room) ≡ drop c room = take_all s (drop c room) (omega arith) in
-    let q' : q ≡ bytes s n = rw (w, b, z, r) at eq in
-    let x : drop s (drop c room) ≡ [] = ap (λ (k : ℕ). drop k (drop c room)) (sym r) ∙ drop-length (drop c room) in
-    rw (w, a, b, x, p', q', append-nil)

@@ -4,9 +4,6 @@ use native.Mathlib.Omega.{arith}
 use Rattle.medium.specs.declared.granularity.Granularity.{Granularity}
 use Rattle.medium.specs.declared.granularity.Granularity.TheVariants.{Bit, Word1, Word4}
 use Rattle.medium.specs.Granularity.{longest_state, longest_block_header, finish_at, delete_at, size_at, header, block_header}
-use Rattle.objects.specs.declared.state.ObjectDataState.{ObjectDataState}
-use Rattle.objects.specs.declared.state.ObjectDataState.TheVariants.{Untrusted, Valid, Deleted}
-use Rattle.objects.specs.Types.{mark_at}
 
 pub record Places (k : Granularity) : Type 0 where
   pub finish : finish_at k < size_at k
@@ -19,12 +16,6 @@ pub places : (k : Granularity) → Places k
 places Bit = record { finish = omega arith; delete = omega arith; least = omega arith; most = omega arith; block = omega arith }
 places Word1 = record { finish = omega arith; delete = omega arith; least = omega arith; most = omega arith; block = omega arith }
 places Word4 = record { finish = omega arith; delete = omega arith; least = omega arith; most = omega arith; block = omega arith }
-
--- the marks stand before the size field
-pub mark_before : (k : Granularity) (to : ObjectDataState) → mark_at k to < size_at k
-mark_before k Untrusted = (places k).finish
-mark_before k Valid = (places k).finish
-mark_before k Deleted = (places k).delete
 
 pub header_small : (k : Granularity) (s : ℕ) → header k s ≤ s + 16
 header_small Bit s = omega arith

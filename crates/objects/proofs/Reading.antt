@@ -1,38 +1,44 @@
 -- What a header that was read tells.
 use mathlib.Core.Path.{◌≡◌, refl, sym, ap, ◌∙◌}
 use mathlib.Core.Bool.{Bool, true, false}
+use mathlib.Core.Logic.{◌⊎◌, inl, inr}
 use mathlib.Core.List.{List}
 use Prim.Native.Nat.{ℕ, zero, suc, ◌+◌, ◌-◌, ◌≤◌}
 use native.Mathlib.Omega.{arith}
 use lib.ListN.{length}
 use lib.Dec.{eqb, leb}
-use borrow.Author.Tests.{eqb-true, eqb-false, leb-true, eq-eqb}
+use borrow.Author.Tests.{eqb-true, leb-true, eq-eqb}
 use Rattle.medium.specs.declared.granularity.Granularity.{Granularity}
 use Rattle.medium.specs.declared.geometry.Geometry.{Geometry}
 use Rattle.medium.specs.declared.fuse.Fuse.{Fuse}
-use Rattle.medium.specs.declared.fuse.Stored.{Stored}
-use Rattle.medium.specs.declared.fuse.Stored.TheVariants.{Done, Refused}
+use Rattle.medium.specs.declared.fuse.Stopped.{Stopped}
+use Rattle.medium.specs.declared.refusal.Refusal.{Refusal}
+use Rattle.medium.specs.Refusal.{refusal_number, code_of}
+use Rattle.medium.specs.Fuse.{kept_by}
+use Rattle.std.specs.Prelude.{Result, Ok, Err}
 use Rattle.medium.specs.Granularity.{pick, width_of, size_at}
 use Rattle.medium.specs.Geometry.{admit, check_of, fit_of, address}
-use Rattle.medium.specs.Operation.{Answer, done, refused, and_then, or_refuse, give, run, ended_by, unless_stored}
+use Rattle.medium.specs.Operation.{Answer, done, refused, and_then, or_refuse, flash, give, run}
 use Rattle.medium.specs.Medium.{part, readable, read_at}
-use Rattle.medium.proofs.Runs.{test_on, test_stop, run_ask}
+use Rattle.medium.proofs.Runs.{run_ask}
 use Rattle.medium.proofs.Bytes.{length_part}
 use Rattle.medium.proofs.Places.{width_is, align_le}
 use Rattle.medium.proofs.Checks.{Fine, fine_of_read, fine_of_check, admitted, read_at_lem, geometry_yes}
 use Rattle.objects.specs.declared.state.CompositeObjectState.{CompositeObjectState}
 use Rattle.objects.specs.declared.state.ObjectState.{ObjectState}
+use Rattle.objects.specs.declared.state.ObjectState.TheVariants.{Free, Allocated}
 use Rattle.objects.specs.declared.location.ObjectLocation.{ObjectLocation}
 use Rattle.objects.specs.declared.header.ObjectHeader.{ObjectHeader}
 use Rattle.objects.specs.declared.reader.ObjectReader.{ObjectReader}
 use Rattle.objects.specs.Numbers.{number, unset_of}
 use Rattle.objects.specs.Types.{state_in, rank_in}
 use Rattle.objects.specs.Location.{location_length, from_bytes}
-use Rattle.objects.specs.Header.{state_at, sizable_of, stayed, stay_of, staying, payload_of}
+use Rattle.objects.specs.Header.{state_at, sizable_of, stayed, stay_of, staying, update_state, payload_of}
 use Rattle.objects.specs.Info.{total_of, span_of}
 use Rattle.objects.specs.Reader.{possible, remaining_of}
 use Rattle.objects.specs.Metadata.{number_at, location_at}
 use Rattle.objects.proofs.Places.{header_small}
+use Rattle.objects.proofs.Tested.{tested_on, tested_stop}
 
 -- the geometry is sound, since it was tested
 pub fine_of_state : (g : Geometry) (at : ObjectLocation) (img : List ℕ) (st : CompositeObjectState) → state_at g at img ≡ done st → Fine g (length img)
@@ -47,21 +53,22 @@ pub fine_of_sizable : (g : Geometry) (h : ObjectHeader) (room r : ℕ) → r ≡
 unfolding sizable_of
 fine_of_sizable g h room r e z = (admitted g room (pick (eqb h.size (unset_of g.s)) 0 4) (sym e ∙ z)).0
 
--- a target that has no mark
-pub stay_run : (g : Geometry) (h : ObjectHeader) (f : Fuse) (to : ObjectState) (img : List ℕ) (r : Stored) → r ≡ stay_of g h (length img) f to
-    → ended_by r h img ≡ run f (staying g h (rank_in to)) img
-unfolding stay_of staying
-stay_run g h f to img r e = go (eqb (admit g (length img) (stayed h (rank_in to))) 0) refl e
-  where
-    go : (b : Bool) → eqb (admit g (length img) (stayed h (rank_in to))) 0 ≡ b
-        → r ≡ pick b (Done f) (Refused (admit g (length img) (stayed h (rank_in to))) f)
-        → ended_by r h img ≡ run f (staying g h (rank_in to)) img
-    go true q d = rw d (sym (test_on f (λ i. admit g (length i) (stayed h (rank_in to))) (λ _. give h) img (admit g (length img) (stayed h (rank_in to))) refl (eqb-true _ _ q) ∙ run_ask f (λ _. done h) img))
-    go false q d = rw d (sym (test_stop f (λ i. admit g (length i) (stayed h (rank_in to))) (λ _. give h) img (admit g (length img) (stayed h (rank_in to))) refl (eqb-false _ _ q)))
+-- a target that has no mark is not stored
+pub no_mark : (g : Geometry) (h : ObjectHeader) (to : ObjectState) → (to ≡ Free) ⊎ (to ≡ Allocated) → update_state g h to ≡ staying g h (rank_in to)
+unfolding update_state
+no_mark g h to (inl e) = rw e
+no_mark g h to (inr e) = rw e
 
-pub unless_same : {A : Type 0} (r : Stored) (a : A) → a ≡ unless_stored r a a
-unless_same (Done f) a = refl
-unless_same (Refused n f) a = refl
+pub stays : (g : Geometry) (h : ObjectHeader) (f : Fuse) (to : ObjectState) (img : List ℕ) (r : Result (Unit {0}) Refusal) → code_of r ≡ stay_of g h (length img) to
+    → {u : Unit {0}} → Ok u ≡ kept_by f r → record { answer = done h; fuse = f; state = img } ≡ run f (staying g h (rank_in to)) img
+unfolding stay_of staying
+stays g h f to img r e k =
+    sym (tested_on {W = flash} f (λ i. admit g (length i) (stayed h (rank_in to))) (λ _. give h) img r e k ∙ run_ask f (λ _. done h) img)
+
+pub stays_not : (g : Geometry) (h : ObjectHeader) (f : Fuse) (to : ObjectState) (img : List ℕ) (r : Result (Unit {0}) Refusal) → code_of r ≡ stay_of g h (length img) to
+    → {s : Stopped} → Err s ≡ kept_by f r → record { answer = refused (refusal_number s.refusal); fuse = s.fuse; state = img } ≡ run f (staying g h (rank_in to)) img
+unfolding stay_of staying
+stays_not g h f to img r e k = sym (tested_stop {W = flash} f (λ i. admit g (length i) (stayed h (rank_in to))) (λ _. give h) img r e k)
 
 pub payload_le : (s : ℕ) (h : ObjectHeader) → payload_of s h ≤ h.size
 unfolding payload_of

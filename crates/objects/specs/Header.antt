@@ -1,10 +1,8 @@
 -- "The size is s bytes, low first; all FF means unset, taken as payload 0." "`allocate` accepts Free, or Allocated of the same type."
 -- "`update_state` to the present state stores nothing."
-use Rattle.std.specs.Prelude.{ℕ, ◌+◌, ◌<◌, List, [], ◌∷◌, length, ltb, eqb}
+use Rattle.std.specs.Prelude.{ℕ, ◌+◌, ◌<◌, List, [], ◌∷◌, length, ltb, eqb, Option, Some, None, Result, Ok, Err}
 use Rattle.medium.specs.declared.geometry.Geometry.{Geometry}
-use Rattle.medium.specs.declared.fuse.Fuse.{Fuse}
-use Rattle.medium.specs.declared.fuse.Stored.{Stored}
-use Rattle.medium.specs.declared.fuse.Stored.TheVariants as stored
+use Rattle.medium.specs.declared.refusal.Refusal.{Refusal}
 use Rattle.medium.specs.Granularity.{pick, size_at}
 use Rattle.medium.specs.Geometry.{admit, check_of}
 use Rattle.medium.specs.Operation.{Answer, done, refused, and_then, Op, ◌>>◌, give, refuse, test}
@@ -16,44 +14,15 @@ use Rattle.objects.specs.declared.state.CompositeObjectState.{CompositeObjectSta
 use Rattle.objects.specs.declared.state.CompositeObjectState.TheVariants as comp
 use Rattle.objects.specs.declared.state.ObjectState.{ObjectState}
 use Rattle.objects.specs.declared.state.ObjectState.TheVariants as state
-use Rattle.objects.specs.declared.state.StateRead.{StateRead}
-use Rattle.objects.specs.declared.state.StateRead.TheVariants as read
 use Rattle.objects.specs.declared.location.ObjectLocation.{ObjectLocation}
 use Rattle.objects.specs.declared.header.ObjectHeader.{ObjectHeader}
-use Rattle.objects.specs.declared.header.HeaderRead.{HeaderRead}
-use Rattle.objects.specs.declared.header.HeaderRead.TheVariants as head
-use Rattle.objects.specs.declared.header.Headed.{Headed}
-use Rattle.objects.specs.declared.header.PayloadSize.{PayloadSize}
-use Rattle.objects.specs.declared.header.PayloadSize.TheVariants.{Set, Unset}
 use Rattle.objects.specs.Numbers.{number, bytes, unset_of}
 use Rattle.objects.specs.Types.{type_byte, rank_to, rank_of, rank_in, mark_at, mark_byte, state_in}
 
--- ---- 01's number and the value of each case
-
-abbrev pub state_answer : StateRead → Answer CompositeObjectState
-state_answer (read.Got s) = done s
-state_answer (read.Refused n) = refused n
-
-abbrev pub state_number : StateRead → ℕ
-state_number (read.Got s) = 0
-state_number (read.Refused n) = n
-
-abbrev pub header_answer : HeaderRead → Answer ObjectHeader
-header_answer (head.Got h) = done h
-header_answer (head.Refused n) = refused n
-
-abbrev pub header_number : HeaderRead → ℕ
-header_number (head.Got h) = 0
-header_number (head.Refused n) = n
-
 -- a size that was read is one that a size field can say
-abbrev pub small_header : HeaderRead → Type 0
-small_header (head.Got h) = h.size < 16777216
-small_header (head.Refused n) = Unit {0}
-
--- a header as it is, beside an answer
-abbrev pub beside_of : ObjectHeader → Stored → Headed
-beside_of h a = record { answer = a; header = h }
+abbrev pub small_header : Result ObjectHeader Refusal → Type 0
+small_header (Ok h) = h.size < 16777216
+small_header (Err e) = Unit {0}
 
 -- ---- reading: the state, and then the size
 
@@ -68,8 +37,8 @@ sized_at g at st img =
 unfoldable pub header_at : Geometry → ObjectLocation → List ℕ → Answer ObjectHeader
 header_at g at img = and_then (state_at g at img) (λ st. sized_at g at st img)
 
-unfoldable pub payload_size_of : ℕ → ObjectHeader → PayloadSize
-payload_size_of s h = pick (eqb h.size (unset_of s)) Unset (Set h.size)
+unfoldable pub payload_size_of : ℕ → ObjectHeader → Option ℕ
+payload_size_of s h = pick (eqb h.size (unset_of s)) None (Some h.size)
 
 unfoldable pub payload_of : ℕ → ObjectHeader → ℕ
 payload_of s h = pick (eqb h.size (unset_of s)) 0 h.size
@@ -99,8 +68,8 @@ set_state g h to = do
 abbrev pub stayed : ObjectHeader → ℕ → ℕ
 stayed h to = pick (eqb to 0) 9 (pick (eqb (rank_of h.state) 1) 0 4)
 
-unfoldable pub stay_of : Geometry → ObjectHeader → ℕ → Fuse → ObjectState → Stored
-stay_of g h room f to = let r = admit g room (stayed h (rank_in to)) in pick (eqb r 0) (stored.Done f) (stored.Refused r f)
+unfoldable pub stay_of : Geometry → ObjectHeader → ℕ → ObjectState → ℕ
+stay_of g h room to = admit g room (stayed h (rank_in to))
 
 unfoldable pub staying : Geometry → ObjectHeader → ℕ → Op ObjectHeader
 staying g h to = do

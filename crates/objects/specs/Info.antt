@@ -1,16 +1,16 @@
 -- "Total is header plus payload; span is the total aligned up."
-use Rattle.std.specs.Prelude.{ℕ, ◌+◌, ◌<◌, List}
+use Rattle.std.specs.Prelude.{ℕ, ◌+◌, ◌<◌, List, Option, Some, None, Result, Ok, Err}
 use Rattle.medium.specs.declared.granularity.Granularity.{Granularity}
 use Rattle.medium.specs.declared.geometry.Geometry.{Geometry}
 use Rattle.medium.specs.Granularity.{width_of, align_of, header}
 use Rattle.medium.specs.Geometry.{fit_of}
+use Rattle.medium.specs.declared.refusal.Refusal.{Refusal}
+use Rattle.medium.specs.Refusal.{refusal_number}
 use Rattle.medium.specs.Operation.{Answer, done, refused, and_then, or_refuse}
 use Rattle.objects.specs.declared.state.CompositeObjectState.{CompositeObjectState}
 use Rattle.objects.specs.declared.state.CompositeObjectState.TheVariants as comp
 use Rattle.objects.specs.declared.location.ObjectLocation.{ObjectLocation}
 use Rattle.objects.specs.declared.header.ObjectHeader.{ObjectHeader}
-use Rattle.objects.specs.declared.info.InfoRead.{InfoRead}
-use Rattle.objects.specs.declared.info.InfoRead.TheVariants as read
 use Rattle.objects.specs.Header.{header_at, payload_of}
 
 -- an object, or none where it is free
@@ -18,20 +18,15 @@ pub data Info : Type 0 where
   found : ObjectHeader → Info
   none : Info
 
-abbrev pub info_answer : InfoRead → Answer Info
-info_answer (read.Found h) = done (found h)
-info_answer read.Free = done none
-info_answer (read.Refused n) = refused n
+abbrev pub info_answer : Result (Option ObjectHeader) Refusal → Answer Info
+info_answer (Ok (Some h)) = done (found h)
+info_answer (Ok None) = done none
+info_answer (Err e) = refused (refusal_number e)
 
-abbrev pub info_number : InfoRead → ℕ
-info_number (read.Found h) = 0
-info_number read.Free = 0
-info_number (read.Refused n) = n
-
-abbrev pub small_info : InfoRead → Type 0
-small_info (read.Found h) = h.size < 16777216
-small_info read.Free = Unit {0}
-small_info (read.Refused n) = Unit {0}
+abbrev pub small_info : Result (Option ObjectHeader) Refusal → Type 0
+small_info (Ok (Some h)) = h.size < 16777216
+small_info (Ok None) = Unit {0}
+small_info (Err e) = Unit {0}
 
 abbrev pub info_in : CompositeObjectState → ObjectHeader → Info
 info_in comp.Free h = none

@@ -1,9 +1,11 @@
 -- "Listing starts after the block header and stops when offset plus header is at least the block size." It also stops at a free header, and
 -- an Allocated object with unset size is stepped over by its header only.
-use Rattle.std.specs.Prelude.{ℕ, zero, suc, ◌+◌, List, [], ◌∷◌, length, leb}
+use Rattle.std.specs.Prelude.{ℕ, zero, suc, ◌+◌, List, [], ◌∷◌, length, leb, Result, Ok, Err}
 use Rattle.medium.specs.declared.geometry.Geometry.{Geometry}
 use Rattle.medium.specs.Granularity.{pick, header, block_header}
 use Rattle.medium.specs.Geometry.{check_of}
+use Rattle.medium.specs.declared.refusal.Refusal.{Refusal}
+use Rattle.medium.specs.Refusal.{refusal_number}
 use Rattle.medium.specs.Operation.{Answer, done, refused, or_refuse}
 use Rattle.objects.specs.declared.header.ObjectHeader.{ObjectHeader}
 use Rattle.objects.specs.declared.iterator.ObjectIterator.{ObjectIterator}
@@ -27,11 +29,11 @@ pub data Met : Type 0 where
   free_place : Met
   block_end : Met
 
-abbrev pub next_answer : Next → Answer Met
-next_answer (next.Object h j) = done (object h j)
-next_answer next.Free = done free_place
-next_answer next.End = done block_end
-next_answer (next.Refused n) = refused n
+abbrev pub next_answer : Result Next Refusal → Answer Met
+next_answer (Ok (next.Object h j)) = done (object h j)
+next_answer (Ok next.Free) = done free_place
+next_answer (Ok next.End) = done block_end
+next_answer (Err e) = refused (refusal_number e)
 
 abbrev pub next_in : Geometry → ObjectIterator → Answer Info → Answer Met
 next_in g i (done (found h)) = done (object h (behind g i h))

@@ -5,17 +5,7 @@ use Rattle.medium.specs.Granularity.{pick}
 use Rattle.medium.specs.Geometry.{fit_of}
 use Rattle.medium.specs.Operation.{Answer, done, refused, and_then, or_refuse}
 use Rattle.objects.specs.declared.location.ObjectLocation.{ObjectLocation}
-use Rattle.objects.specs.declared.location.LocationRead.{LocationRead}
-use Rattle.objects.specs.declared.location.LocationRead.TheVariants as read
 use Rattle.objects.specs.Numbers.{number, bytes}
-
-abbrev pub location_answer : LocationRead → Answer ObjectLocation
-location_answer (read.Got l) = done l
-location_answer (read.Refused n) = refused n
-
-abbrev pub location_number : LocationRead → ℕ
-location_number (read.Got l) = 0
-location_number (read.Refused n) = n
 
 -- how long a location is
 abbrev pub location_length : Geometry → ℕ

@@ -1,43 +1,21 @@
 -- A metadata payload: "a hash, a name location and whole further locations". A payload below 4+c+s gives 9 where the next location is asked for.
-use Rattle.std.specs.Prelude.{ℕ, ◌+◌, ◌-◌, List, length, leb}
+use Rattle.std.specs.Prelude.{ℕ, ◌+◌, ◌-◌, List, length, leb, Option, Some, None, Result, Ok, Err}
 use Rattle.medium.specs.declared.geometry.Geometry.{Geometry}
 use Rattle.medium.specs.Granularity.{pick}
 use Rattle.medium.specs.Geometry.{check_of}
+use Rattle.medium.specs.declared.refusal.Refusal.{Refusal}
+use Rattle.medium.specs.Refusal.{refusal_number}
 use Rattle.medium.specs.Operation.{Answer, done, refused, and_then, or_refuse}
 use Rattle.medium.specs.Medium.{read_at}
 use Rattle.objects.specs.declared.location.ObjectLocation.{ObjectLocation}
 use Rattle.objects.specs.declared.header.ObjectHeader.{ObjectHeader}
-use Rattle.objects.specs.declared.header.PayloadSize.{PayloadSize}
-use Rattle.objects.specs.declared.header.PayloadSize.TheVariants.{Set, Unset}
 use Rattle.objects.specs.declared.metadata.MetadataObjectHeader.{MetadataObjectHeader}
-use Rattle.objects.specs.declared.metadata.MetadataRead.{MetadataRead}
-use Rattle.objects.specs.declared.metadata.MetadataRead.TheVariants as read
-use Rattle.objects.specs.declared.metadata.NumberRead.{NumberRead}
-use Rattle.objects.specs.declared.metadata.NumberRead.TheVariants as count
-use Rattle.objects.specs.declared.metadata.NextLocation.{NextLocation}
-use Rattle.objects.specs.declared.metadata.NextLocation.TheVariants as next
 use Rattle.objects.specs.Numbers.{number}
 use Rattle.objects.specs.Location.{location_length, location_in}
 use Rattle.objects.specs.Header.{payload_size_of}
 use Rattle.objects.specs.Info.{Info, found, none, info_at}
 use Rattle.objects.specs.Payload.{payload_at}
 use Rattle.objects.specs.Reader.{possible}
-
-abbrev pub metadata_answer : MetadataRead → Answer MetadataObjectHeader
-metadata_answer (read.Got m) = done m
-metadata_answer (read.Refused n) = refused n
-
-abbrev pub metadata_number : MetadataRead → ℕ
-metadata_number (read.Got m) = 0
-metadata_number (read.Refused n) = n
-
-abbrev pub count_answer : NumberRead → Answer ℕ
-count_answer (count.Got n) = done n
-count_answer (count.Refused k) = refused k
-
-abbrev pub count_number : NumberRead → ℕ
-count_number (count.Got n) = 0
-count_number (count.Refused k) = k
 
 -- the hash stands first in the payload
 abbrev pub hash_at : Geometry → ObjectHeader → ℕ
@@ -71,9 +49,9 @@ abbrev pub metadata_header : Geometry → ℕ
 metadata_header g = 4 + g.c + g.s
 
 -- whether the cursor is at the end of the list: an unset size has none
-abbrev pub list_end : Geometry → PayloadSize → Answer ℕ
-list_end g Unset = done 0
-list_end g (Set n) = pick (leb (metadata_header g) n) (done (n - metadata_header g)) (refused 9)
+abbrev pub list_end : Geometry → Option ℕ → Answer ℕ
+list_end g None = done 0
+list_end g (Some n) = pick (leb (metadata_header g) n) (done (n - metadata_header g)) (refused 9)
 
 abbrev pub past_location : Geometry → MetadataObjectHeader → MetadataObjectHeader
 past_location g m = record { object = m.object; hash = m.hash; name = m.name; cursor = m.cursor + location_length g }
@@ -86,10 +64,10 @@ pub data Listed : Type 0 where
   location : ObjectLocation → MetadataObjectHeader → Listed
   no_more : Listed
 
-abbrev pub next_location_answer : NextLocation → Answer Listed
-next_location_answer (next.At l m) = done (location l m)
-next_location_answer next.End = done no_more
-next_location_answer (next.Refused n) = refused n
+abbrev pub next_location_answer : Result (Option (ObjectLocation × MetadataObjectHeader)) Refusal → Answer Listed
+next_location_answer (Ok (Some x)) = done (location x.0 x.1)
+next_location_answer (Ok None) = done no_more
+next_location_answer (Err e) = refused (refusal_number e)
 
 abbrev pub next_listed : Geometry → MetadataObjectHeader → List ℕ → Answer Listed
 next_listed g m img = and_then (location_at g m.object.location.block (listed_at g m) img) (λ l. done (location l (past_location g m)))

@@ -1,28 +1,18 @@
 -- The reader: its length, what is left, and a read into a lent buffer. "a reader's cursor beyond its length" gives 9, one above 65,536 is
 -- impossible and gives 4.
-use Rattle.std.specs.Prelude.{ℕ, ◌+◌, ◌-◌, min, List, ◌++◌, Bool, ◌&&◌, ◌||◌, length, drop, leb, eqb}
+use Rattle.std.specs.Prelude.{ℕ, ◌+◌, ◌-◌, min, List, ◌++◌, Bool, ◌&&◌, ◌||◌, length, drop, leb, eqb, Result, Ok, Err}
 use Rattle.medium.specs.declared.geometry.Geometry.{Geometry}
 use Rattle.medium.specs.Granularity.{pick}
 use Rattle.medium.specs.Geometry.{fit_of, check_of}
+use Rattle.medium.specs.declared.refusal.Refusal.{Refusal}
+use Rattle.medium.specs.Refusal.{refusal_number}
 use Rattle.medium.specs.Operation.{Answer, done, refused, and_then, or_refuse}
 use Rattle.medium.specs.Medium.{read_at}
 use Rattle.objects.specs.declared.location.ObjectLocation.{ObjectLocation}
 use Rattle.objects.specs.declared.reader.ObjectReader.{ObjectReader}
-use Rattle.objects.specs.declared.reader.ReaderRead.{ReaderRead}
-use Rattle.objects.specs.declared.reader.ReaderRead.TheVariants as read
-use Rattle.objects.specs.declared.reader.Reading.{Reading}
-use Rattle.objects.specs.declared.reader.Reading.TheVariants as reading
 use Rattle.objects.specs.Types.{rank_of}
 use Rattle.objects.specs.Header.{header_at, payload_of}
 use Rattle.objects.specs.Payload.{payload_at}
-
-abbrev pub reader_answer : ReaderRead → Answer ObjectReader
-reader_answer (read.Got r) = done r
-reader_answer (read.Refused n) = refused n
-
-abbrev pub reader_number : ReaderRead → ℕ
-reader_number (read.Got r) = 0
-reader_number (read.Refused n) = n
 
 -- of a finished object, or of any that is there
 abbrev pub readable : Bool → ℕ → Bool
@@ -77,13 +67,9 @@ pub record Counting : Type 0 where
   pub count : ℕ
   pub reader : ObjectReader
 
-abbrev pub reading_answer : Reading → Answer Counting
-reading_answer (reading.Read n r) = done (record { count = n; reader = r })
-reading_answer (reading.Refused n) = refused n
-
-abbrev pub reading_number : Reading → ℕ
-reading_number (reading.Read n r) = 0
-reading_number (reading.Refused n) = n
+abbrev pub reading_answer : Result (ℕ × ObjectReader) Refusal → Answer Counting
+reading_answer (Ok x) = done (record { count = x.0; reader = x.1 })
+reading_answer (Err e) = refused (refusal_number e)
 
 abbrev pub counting : Chunk → Answer Counting
 counting k = done (record { count = length k.bytes; reader = k.reader })

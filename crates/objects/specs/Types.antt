@@ -1,20 +1,16 @@
 -- "Types: FileMetadata 8F, FileData 8E, FileName 8D; FF is Free; others give 2." "Mark pairs: FF FF Allocated, 00 FF Finalized, 00 00
 -- Deleted; others give 2."; under Bit one byte: FF, F0, 00.
-use Rattle.std.specs.Prelude.{ℕ, List, get_or, eqb}
+use Rattle.std.specs.Prelude.{ℕ, List, get_or, eqb, Option, Some, None, Result, Ok, Err}
 use Rattle.medium.specs.declared.granularity.Granularity.{Granularity}
 use Rattle.medium.specs.declared.granularity.Granularity.TheVariants.{Bit, Word1, Word4}
 use Rattle.medium.specs.Granularity.{pick, finish_at, delete_at, finish_mark}
-use Rattle.medium.specs.Operation.{Answer, done, refused, number_of}
+use Rattle.medium.specs.declared.refusal.Refusal.{Refusal}
+use Rattle.medium.specs.Refusal.{refusal_number}
+use Rattle.medium.specs.Operation.{Answer, done, refused}
 use Rattle.objects.specs.declared.types.ObjectType.{ObjectType}
 use Rattle.objects.specs.declared.types.ObjectType.TheVariants.{FileMetadata, FileData, FileName}
-use Rattle.objects.specs.declared.types.TypeRead.{TypeRead}
-use Rattle.objects.specs.declared.types.TypeRead.TheVariants as ty
-use Rattle.objects.specs.declared.types.ObjectTypeRead.{ObjectTypeRead}
-use Rattle.objects.specs.declared.types.ObjectTypeRead.TheVariants as said
 use Rattle.objects.specs.declared.state.ObjectDataState.{ObjectDataState}
 use Rattle.objects.specs.declared.state.ObjectDataState.TheVariants.{Untrusted, Valid, Deleted}
-use Rattle.objects.specs.declared.state.DataStateRead.{DataStateRead}
-use Rattle.objects.specs.declared.state.DataStateRead.TheVariants as mark
 use Rattle.objects.specs.declared.state.CompositeObjectState.{CompositeObjectState}
 use Rattle.objects.specs.declared.state.CompositeObjectState.TheVariants as comp
 use Rattle.objects.specs.declared.state.ObjectState.{ObjectState}
@@ -37,19 +33,12 @@ type_of b =
     (pick (eqb b 0x8D) (done (typed FileName))
     (pick (eqb b 0xFF) (done untyped) (refused 2))))
 
-abbrev pub type_answer : TypeRead → Answer TypeSaid
-type_answer (ty.Got t) = done (typed t)
-type_answer ty.Free = done untyped
-type_answer (ty.Refused n) = refused n
+abbrev pub type_answer : Result (Option ObjectType) Refusal → Answer TypeSaid
+type_answer (Ok (Some t)) = done (typed t)
+type_answer (Ok None) = done untyped
+type_answer (Err e) = refused (refusal_number e)
 
 -- ---- a type that a caller gives as a number: any other than the three gives 4, also Free's FF
-
-abbrev pub object_type_answer : ObjectTypeRead → Answer ObjectType
-object_type_answer (said.Got t) = done t
-object_type_answer (said.Refused n) = refused n
-
-abbrev pub object_type_number : ObjectTypeRead → ℕ
-object_type_number r = number_of (object_type_answer r)
 
 abbrev pub object_type_by : Answer TypeSaid → Answer ObjectType
 object_type_by (done (typed t)) = done t
@@ -75,14 +64,6 @@ pair_of a b =
     (pick (eqb b 0xFF) (done Valid)
     (pick (eqb b 0x00) (done Deleted) (refused 2)))
     (refused 2))
-
-abbrev pub data_state_answer : DataStateRead → Answer ObjectDataState
-data_state_answer (mark.Got d) = done d
-data_state_answer (mark.Refused n) = refused n
-
-abbrev pub data_state_number : DataStateRead → ℕ
-data_state_number (mark.Got d) = 0
-data_state_number (mark.Refused n) = n
 
 unfoldable pub marks_of : Granularity → ℕ → ℕ → Answer ObjectDataState
 marks_of Bit a b = mark_of a
@@ -110,6 +91,11 @@ rank_to Deleted = 3
 abbrev pub rank_of : CompositeObjectState → ℕ
 rank_of comp.Free = 0
 rank_of (comp.Allocated t d) = rank_to d
+
+-- the type byte, and FF where no object is there
+abbrev pub type_number : CompositeObjectState → ℕ
+type_number comp.Free = 0xFF
+type_number (comp.Allocated t d) = type_byte t
 
 abbrev pub rank_in : ObjectState → ℕ
 rank_in state.Free = 0

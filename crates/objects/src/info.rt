@@ -1,53 +1,34 @@
 // An object that is there: what the Rust calls its info is its header.
 ghost use Rattle.std.specs.Prelude.{◌≡◌, ◌≤◌, ◌<◌};
-ghost use Rattle.medium.specs.Operation.{run, ended_by, counted, unless_stored};
+ghost use Rattle.medium.specs.Operation.{run, ended_with};
+ghost use Rattle.medium.specs.Refusal.{answer_of};
 ghost use Rattle.objects.specs.Header.{set_state};
-ghost use Rattle.objects.specs.Info.{info_answer, info_number, small_info, info_at, total_of, span_of, size_of_object};
+ghost use Rattle.objects.specs.Info.{info_answer, small_info, info_at, total_of, span_of, size_of_object};
 ghost use Rattle.objects.specs.declared.state.ObjectDataState.TheVariants.{Valid, Deleted};
 
-use crate::header::{Headed, HeaderRead, ObjectHeader};
+use crate::header::ObjectHeader;
 use crate::location::ObjectLocation;
 use crate::state::{CompositeObjectState, ObjectDataState};
-use medium::fuse::Fuse;
-use medium::geometry::{Counted, Geometry};
+use medium::fuse::{Ended, Fuse};
+use medium::geometry::Geometry;
 use medium::granularity::Granularity;
-
-#[derive(Clone, Copy)]
-pub enum InfoRead {
-    Found(ObjectHeader),
-    Free,
-    Refused(u8),
-}
-
-impl InfoRead {
-    pub fn number(self) -> u8
-        ensures { result ≡ info_number self }
-    {
-        match self {
-            InfoRead::Found(_) => 0,
-            InfoRead::Free => 0,
-            InfoRead::Refused(k) => k,
-        }
-    }
-}
+use medium::refusal::Refusal;
 
 // The object at a place, if one is there.
-pub fn read(g: Geometry, image: &[u8], at: ObjectLocation) -> InfoRead
+#[tactic(auto, unfolding(crate::specs::Info::info_at))]
+pub fn read(g: Geometry, image: &[u8], at: ObjectLocation) -> Result<Option<ObjectHeader>, Refusal>
     ensures result_value { info_answer result ≡ info_at g at image.now }
     ensures small_info { small_info result }
 {
-    let got = ObjectHeader::read(g, image, at);
-    let HeaderRead::Got(h) = got else {
-        return InfoRead::Refused(got.number());
-    };
-    let state = h.state;
-    let CompositeObjectState::Allocated(_, _) = state else {
-        return InfoRead::Free;
-    };
-    InfoRead::Found(h)
+    let header = ObjectHeader::read(g, image, at)?;
+    match header.state {
+        CompositeObjectState::Free => Ok(None),
+        CompositeObjectState::Allocated(_, _) => Ok(Some(header)),
+    }
 }
 
 // Header and payload, of a size field of s bytes.
+#[tactic(auto, unfolding(crate::specs::Info::total_of))]
 pub fn total(h: ObjectHeader, k: Granularity, s: u8) -> usize
     ensures value { result ≡ total_of k s h }
     ensures upper_bound { result ≤ 4294967566 }
@@ -55,27 +36,22 @@ pub fn total(h: ObjectHeader, k: Granularity, s: u8) -> usize
     k.object_header(s) + h.payload(s)
 }
 
-pub fn total_size(g: Geometry, h: ObjectHeader) -> Counted
-    ensures { counted result ≡ size_of_object g h }
+#[tactic(auto, unfolding(crate::specs::Info::size_of_object))]
+pub fn total_size(g: Geometry, h: ObjectHeader) -> Result<usize, Refusal>
+    ensures { answer_of result ≡ size_of_object g h }
 {
-    let bad = medium::geometry::fit(g);
-    if bad != 0 {
-        return Counted::Refused(bad);
-    }
-    let k = g.granularity;
-    Counted::Bytes(total(h, k, g.s))
+    medium::geometry::fit(g)?;
+    Ok(total(h, g.granularity, g.s))
 }
 
-pub fn finalize(g: Geometry, image: &mut [u8], f: Fuse, h: ObjectHeader) -> Headed
-    ensures image_after { ended_by result.answer result.header image.new ≡ run f (set_state g h Valid) image.old }
-    ensures header_value { result.header ≡ unless_stored result.answer h result.header }
+pub fn finalize(g: Geometry, image: &mut [u8], f: Fuse, h: ObjectHeader) -> Ended<ObjectHeader>
+    ensures { ended_with result image.new ≡ run f (set_state g h Valid) image.old }
 {
     h.set_state(g, image, f, ObjectDataState::Valid)
 }
 
-pub fn delete(g: Geometry, image: &mut [u8], f: Fuse, h: ObjectHeader) -> Headed
-    ensures image_after { ended_by result.answer result.header image.new ≡ run f (set_state g h Deleted) image.old }
-    ensures header_value { result.header ≡ unless_stored result.answer h result.header }
+pub fn delete(g: Geometry, image: &mut [u8], f: Fuse, h: ObjectHeader) -> Ended<ObjectHeader>
+    ensures { ended_with result image.new ≡ run f (set_state g h Deleted) image.old }
 {
     h.set_state(g, image, f, ObjectDataState::Deleted)
 }

@@ -1,18 +1,16 @@
 // The payload of a file's metadata object: a hash, where its name is, and where its data objects are.
 ghost use Rattle.std.specs.Prelude.{◌≡◌, ◌+◌, ◌≤◌, ◌<◌, length};
-ghost use Rattle.medium.specs.Operation.{counted};
-ghost use Rattle.objects.specs.Location.{location_answer};
+ghost use Rattle.medium.specs.Refusal.{answer_of};
 ghost use Rattle.objects.specs.Header.{payload_size_of};
-ghost use Rattle.objects.specs.Metadata.{metadata_answer, metadata_number, count_answer, count_number, number_at, read_metadata, metadata_at, list_end, listable, listed_at, past_location, next_location_answer, next_location, reset_of};
+ghost use Rattle.objects.specs.Metadata.{number_at, read_metadata, metadata_at, list_end, listable, listed_at, past_location, next_location_answer, next_location, reset_of};
 
-use crate::header::{ObjectHeader, PayloadSize};
-use crate::info::InfoRead;
-use crate::location::{LocationRead, ObjectLocation};
+use crate::header::ObjectHeader;
+use crate::location::ObjectLocation;
 use crate::{info, location, payload};
-use medium::fuse::Answered;
-use medium::geometry::{Counted, Geometry};
+use medium::geometry::Geometry;
+use medium::refusal::Refusal;
 
-#[derive(Clone, Copy)]
+#[derive(Clone, Copy, Debug, PartialEq, Eq)]
 pub struct MetadataObjectHeader {
     pub object: ObjectHeader,
     pub hash: u32,
@@ -20,76 +18,41 @@ pub struct MetadataObjectHeader {
     pub cursor: usize,
 }
 
-#[derive(Clone, Copy)]
-pub enum MetadataRead {
-    Got(MetadataObjectHeader),
-    Refused(u8),
-}
-
-impl MetadataRead {
-    pub fn number(self) -> u8
-        ensures { result ≡ metadata_number self }
-    {
-        match self {
-            MetadataRead::Got(_) => 0,
-            MetadataRead::Refused(k) => k,
-        }
-    }
-}
-
-// The next location of the list, with the header behind it; the list's end; or a refusal, after which the caller's header stands.
-#[derive(Clone, Copy)]
-pub enum NextLocation {
-    At(ObjectLocation, MetadataObjectHeader),
-    End,
-    Refused(u8),
-}
-
-// A number of a range's bytes.
-#[derive(Clone, Copy)]
-enum NumberRead {
-    Got(u32),
-    Refused(u8),
-}
-
-impl NumberRead {
-    fn number(self) -> u8
-        ensures { result ≡ count_number self }
-    {
-        match self {
-            NumberRead::Got(_) => 0,
-            NumberRead::Refused(k) => k,
-        }
-    }
-}
-
 // The number at a place, of as many bytes as are lent for it.
-fn number_at(g: Geometry, image: &[u8], block: u32, at: usize, raw: &mut [u8]) -> NumberRead
+#[tactic(auto, unfolding(crate::specs::Metadata::number_at))]
+fn number_at(
+    g: Geometry,
+    image: &[u8],
+    block: u32,
+    at: usize,
+    raw: &mut [u8],
+) -> Result<u32, Refusal>
     requires { length raw.old ≤ 4 }
-    ensures { count_answer result ≡ number_at g block at (length raw.old) image.now }
+    ensures { answer_of result ≡ number_at g block at (length raw.old) image.now }
 {
-    let a = medium::read(g, image, block, at, raw);
-    let Answered::Done = a else {
-        return NumberRead::Refused(a.number());
-    };
-    NumberRead::Got(location::number(raw) as u32)
+    medium::read(g, image, block, at, raw)?;
+    Ok(location::number(raw) as u32)
 }
 
 // The location at a place, through bytes that are lent for it.
-fn location_in(g: Geometry, image: &[u8], block: u32, at: usize, raw: &mut [u8]) -> LocationRead
+#[tactic(auto, unfolding(crate::specs::Metadata::location_at))]
+fn location_in(
+    g: Geometry,
+    image: &[u8],
+    block: u32,
+    at: usize,
+    raw: &mut [u8],
+) -> Result<ObjectLocation, Refusal>
     requires { length raw.old ≡ g.c + g.s }
-    ensures { location_answer result ≡ Rattle.objects.specs.Metadata.location_at g block at image.now }
+    ensures { answer_of result ≡ Rattle.objects.specs.Metadata.location_at g block at image.now }
 {
-    let a = medium::read(g, image, block, at, raw);
-    let Answered::Done = a else {
-        return LocationRead::Refused(a.number());
-    };
+    medium::read(g, image, block, at, raw)?;
     ObjectLocation::from_bytes(g, raw)
 }
 
-fn location_at(g: Geometry, image: &[u8], block: u32, at: usize) -> LocationRead
+fn location_at(g: Geometry, image: &[u8], block: u32, at: usize) -> Result<ObjectLocation, Refusal>
     requires { (g.c ≤ 3) × (g.s ≤ 3) }
-    ensures { location_answer result ≡ Rattle.objects.specs.Metadata.location_at g block at image.now }
+    ensures { answer_of result ≡ Rattle.objects.specs.Metadata.location_at g block at image.now }
 {
     let n = (g.c as usize) + (g.s as usize);
     let mut buffer = [0u8; 6];
@@ -97,21 +60,16 @@ fn location_at(g: Geometry, image: &[u8], block: u32, at: usize) -> LocationRead
 }
 
 // Hash and name location of an object, whatever its payload size.
-pub fn read(g: Geometry, image: &[u8], h: ObjectHeader) -> MetadataRead
-    ensures { metadata_answer result ≡ read_metadata g h image.now }
+#[tactic(auto, unfolding(crate::specs::Metadata::read_metadata))]
+pub fn read(g: Geometry, image: &[u8], h: ObjectHeader) -> Result<MetadataObjectHeader, Refusal>
+    ensures { answer_of result ≡ read_metadata g h image.now }
 {
-    let place = h.location;
+    let block = h.location.block;
     let at = payload::at(g, h);
     let mut raw = [0u8; 4];
-    let n = number_at(g, image, place.block, at, &mut raw);
-    let NumberRead::Got(hash) = n else {
-        return MetadataRead::Refused(n.number());
-    };
-    let l = location_at(g, image, place.block, at + 4);
-    let LocationRead::Got(name) = l else {
-        return MetadataRead::Refused(l.number());
-    };
-    MetadataRead::Got(MetadataObjectHeader {
+    let hash = number_at(g, image, block, at, &mut raw)?;
+    let name = location_at(g, image, block, at + 4)?;
+    Ok(MetadataObjectHeader {
         object: h,
         hash: hash,
         name: name,
@@ -120,44 +78,43 @@ pub fn read(g: Geometry, image: &[u8], h: ObjectHeader) -> MetadataRead
 }
 
 // The same of the object at a place: 2 where none is there.
-pub fn read_at(g: Geometry, image: &[u8], at: ObjectLocation) -> MetadataRead
-    ensures { metadata_answer result ≡ metadata_at g at image.now }
+#[tactic(auto, unfolding(crate::specs::Metadata::metadata_at))]
+pub fn read_at(
+    g: Geometry,
+    image: &[u8],
+    at: ObjectLocation,
+) -> Result<MetadataObjectHeader, Refusal>
+    ensures { answer_of result ≡ metadata_at g at image.now }
 {
-    let r = info::read(g, image, at);
-    match r {
-        InfoRead::Found(h) => read(g, image, h),
-        InfoRead::Free => MetadataRead::Refused(2),
-        InfoRead::Refused(k) => MetadataRead::Refused(k),
-    }
+    let Some(header) = info::read(g, image, at)? else {
+        return Err(Refusal::FsCorrupted);
+    };
+    read(g, image, header)
 }
 
 impl MetadataObjectHeader {
     // How far the list of locations reaches: 0 where the size is unset, 9 where hash and name have no room.
-    fn list_end(self, g: Geometry) -> Counted
-        ensures { counted result ≡ list_end g (payload_size_of g.s self.object) }
+    fn list_end(self, g: Geometry) -> Result<usize, Refusal>
+        ensures { answer_of result ≡ list_end g (payload_size_of g.s self.object) }
     {
-        let h = self.object;
-        let p = h.payload_size(g.s);
-        let PayloadSize::Set(n) = p else {
-            return Counted::Bytes(0);
+        let Some(n) = self.object.payload_size(g.s) else {
+            return Ok(0);
         };
         let least = 4 + (g.c as usize) + (g.s as usize);
         let size = n as usize;
         if size < least {
-            return Counted::Refused(9);
+            return Err(Refusal::RustPanic);
         }
-        Counted::Bytes(size - least)
+        Ok(size - least)
     }
 
-    fn may_list(self, g: Geometry, room: usize) -> Counted
-        ensures { counted result ≡ listable g self room }
+    #[tactic(auto, unfolding(crate::specs::Metadata::listable))]
+    fn may_list(self, g: Geometry, room: usize) -> Result<usize, Refusal>
+        ensures { answer_of result ≡ listable g self room }
     {
-        let bad = medium::geometry::check(g, room);
-        if bad != 0 {
-            return Counted::Refused(bad);
-        }
+        medium::geometry::check(g, room)?;
         if 65536 < self.cursor {
-            return Counted::Refused(4);
+            return Err(Refusal::InvalidOperation);
         }
         self.list_end(g)
     }
@@ -167,55 +124,40 @@ impl MetadataObjectHeader {
         requires { self.cursor ≤ 65536 }
         ensures { result ≡ listed_at g self }
     {
-        let h = self.object;
-        payload::at(g, h) + (4 + (g.c as usize) + (g.s as usize)) + self.cursor
+        payload::at(g, self.object) + (4 + (g.c as usize) + (g.s as usize)) + self.cursor
     }
 
     fn past_location(self, g: Geometry) -> MetadataObjectHeader
         requires { self.cursor ≤ 65536 }
         ensures { result ≡ past_location g self }
     {
-        let h = self.object;
-        let name = self.name;
         MetadataObjectHeader {
-            object: h,
-            hash: self.hash,
-            name: name,
             cursor: self.cursor + ((g.c as usize) + (g.s as usize)),
+            ..self
         }
     }
 
-    // The location of the next data object.
-    pub fn next_object_location(self, g: Geometry, image: &[u8]) -> NextLocation
+    // The location of the next data object, with the header behind it; none at the list's end.
+    #[tactic(auto, unfolding(crate::specs::Metadata::listable, crate::specs::Metadata::next_location))]
+    pub fn next_object_location(
+        self,
+        g: Geometry,
+        image: &[u8],
+    ) -> Result<Option<(ObjectLocation, MetadataObjectHeader)>, Refusal>
         ensures { next_location_answer result ≡ next_location g self image.now }
     {
-        let e = self.may_list(g, image.len());
-        let Counted::Bytes(end) = e else {
-            return NextLocation::Refused(e.number());
-        };
+        let end = self.may_list(g, image.len())?;
         if end <= self.cursor {
-            return NextLocation::End;
+            return Ok(None);
         }
-        let h = self.object;
-        let place = h.location;
-        let l = location_at(g, image, place.block, self.listed_at(g));
-        let LocationRead::Got(next) = l else {
-            return NextLocation::Refused(l.number());
-        };
-        NextLocation::At(next, self.past_location(g))
+        let next = location_at(g, image, self.object.location.block, self.listed_at(g))?;
+        Ok(Some((next, self.past_location(g))))
     }
 
     // Back to the first data object.
     pub fn reset(self) -> MetadataObjectHeader
         ensures { result ≡ reset_of self }
     {
-        let h = self.object;
-        let name = self.name;
-        MetadataObjectHeader {
-            object: h,
-            hash: self.hash,
-            name: name,
-            cursor: 0,
-        }
+        MetadataObjectHeader { cursor: 0, ..self }
     }
 }

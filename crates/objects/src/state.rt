@@ -1,71 +1,36 @@
 // The state of an object: what its type byte and its marks say together.
-ghost use Rattle.std.specs.Prelude.{◌≡◌, length};
+ghost use Rattle.std.specs.Prelude.{◌≡◌, length, eqb};
+ghost use Rattle.medium.specs.Refusal.{answer_of};
 ghost use Rattle.medium.specs.Granularity.{size_at};
-ghost use Rattle.medium.specs.Operation.{answered};
-ghost use Rattle.objects.specs.Types.{data_state_answer, data_state_number, mark_of, pair_of, marks_of, rank_to, rank_of, state_of, rank_in, mark_at, mark_byte, state_in};
-ghost use Rattle.objects.specs.Header.{state_answer, state_number, state_at, allocatable_of};
+ghost use Rattle.objects.specs.Types.{type_number, mark_of, pair_of, marks_of, rank_to, rank_of, state_of, rank_in, mark_at, mark_byte, state_in};
+ghost use Rattle.objects.specs.Header.{state_at, allocatable_of};
 
 use crate::location::ObjectLocation;
-use crate::types::{ObjectType, TypeRead};
-use medium::fuse::Answered;
+use crate::types::ObjectType;
 use medium::geometry::Geometry;
 use medium::granularity::Granularity;
+use medium::refusal::Refusal;
 
-#[derive(Clone, Copy)]
+#[derive(Clone, Copy, Debug, PartialEq, Eq)]
 pub enum ObjectDataState {
     Untrusted,
     Valid,
     Deleted,
 }
 
-// What the marks say.
-#[derive(Clone, Copy)]
-pub enum DataStateRead {
-    Got(ObjectDataState),
-    Refused(u8),
-}
-
-impl DataStateRead {
-    pub fn number(self) -> u8
-        ensures { result ≡ data_state_number self }
-    {
-        match self {
-            DataStateRead::Got(_) => 0,
-            DataStateRead::Refused(k) => k,
-        }
-    }
-}
-
-#[derive(Clone, Copy)]
+// No Option: Free and Allocated are the Rust's names, and a free place is a state of its own.
+#[derive(Clone, Copy, Debug, PartialEq, Eq)]
 pub enum CompositeObjectState {
     Free,
     Allocated(ObjectType, ObjectDataState),
 }
 
-#[derive(Clone, Copy)]
+#[derive(Clone, Copy, Debug, PartialEq, Eq)]
 pub enum ObjectState {
     Free,
     Allocated,
     Finalized,
     Deleted,
-}
-
-// What the bytes before the size field say.
-#[derive(Clone, Copy)]
-pub enum StateRead {
-    Got(CompositeObjectState),
-    Refused(u8),
-}
-
-impl StateRead {
-    pub fn number(self) -> u8
-        ensures { result ≡ state_number self }
-    {
-        match self {
-            StateRead::Got(_) => 0,
-            StateRead::Refused(k) => k,
-        }
-    }
 }
 
 impl ObjectState {
@@ -94,37 +59,35 @@ impl ObjectDataState {
     }
 
     // One state byte, as under Bit.
-    fn parse(b: u8) -> DataStateRead
-        ensures { data_state_answer result ≡ mark_of b }
+    #[tactic(auto, unfolding(crate::specs::Types::mark_of))]
+    fn parse(b: u8) -> Result<ObjectDataState, Refusal>
+        ensures { answer_of result ≡ mark_of b }
     {
         match b {
-            0xFF => DataStateRead::Got(ObjectDataState::Untrusted),
-            0xF0 => DataStateRead::Got(ObjectDataState::Valid),
-            0x00 => DataStateRead::Got(ObjectDataState::Deleted),
-            _ => DataStateRead::Refused(2),
+            0xFF => Ok(ObjectDataState::Untrusted),
+            0xF0 => Ok(ObjectDataState::Valid),
+            0x00 => Ok(ObjectDataState::Deleted),
+            _ => Err(Refusal::FsCorrupted),
         }
     }
 
     // Two marks, as under either Word.
-    fn parse_pair(finished: u8, deleted: u8) -> DataStateRead
-        ensures { data_state_answer result ≡ pair_of finished deleted }
+    #[tactic(auto, unfolding(crate::specs::Types::pair_of))]
+    fn parse_pair(finished: u8, deleted: u8) -> Result<ObjectDataState, Refusal>
+        ensures { answer_of result ≡ pair_of finished deleted }
     {
-        match finished {
-            0xFF => match deleted {
-                0xFF => DataStateRead::Got(ObjectDataState::Untrusted),
-                _ => DataStateRead::Refused(2),
-            },
-            0x00 => match deleted {
-                0xFF => DataStateRead::Got(ObjectDataState::Valid),
-                0x00 => DataStateRead::Got(ObjectDataState::Deleted),
-                _ => DataStateRead::Refused(2),
-            },
-            _ => DataStateRead::Refused(2),
+        match (finished, deleted) {
+            (0xFF, 0xFF) => Ok(ObjectDataState::Untrusted),
+            (0x00, 0xFF) => Ok(ObjectDataState::Valid),
+            (0x00, 0x00) => Ok(ObjectDataState::Deleted),
+            _ => Err(Refusal::FsCorrupted),
         }
     }
 
-    pub fn of_marks(k: Granularity, finished: u8, deleted: u8) -> DataStateRead
-        ensures { data_state_answer result ≡ marks_of k finished deleted }
+    // What the marks say.
+    #[tactic(auto, unfolding(crate::specs::Types::marks_of))]
+    pub fn of_marks(k: Granularity, finished: u8, deleted: u8) -> Result<ObjectDataState, Refusal>
+        ensures { answer_of result ≡ marks_of k finished deleted }
     {
         match k {
             Granularity::Bit => ObjectDataState::parse(finished),
@@ -179,62 +142,79 @@ impl CompositeObjectState {
         }
     }
 
-    // The bytes before the size field.
-    fn parse(k: Granularity, raw: &[u8]) -> StateRead
-        requires { length raw.now ≡ size_at k }
-        ensures { state_answer result ≡ state_in k raw.now }
+    // The byte of the type, and FF where no object is there.
+    pub fn type_byte(self) -> u8
+        ensures { result ≡ type_number self }
     {
-        let kind = ObjectType::parse(raw[0]);
-        match kind {
-            TypeRead::Free => StateRead::Got(CompositeObjectState::Free),
-            TypeRead::Refused(n) => StateRead::Refused(n),
-            TypeRead::Got(t) => {
-                let f = k.finish_at();
-                let d = k.delete_at();
-                let m = ObjectDataState::of_marks(k, raw[f], raw[d]);
-                let DataStateRead::Got(x) = m else {
-                    return StateRead::Refused(m.number());
-                };
-                StateRead::Got(CompositeObjectState::Allocated(t, x))
-            }
+        match self {
+            CompositeObjectState::Free => ObjectType::FREE,
+            CompositeObjectState::Allocated(t, _) => u8::from(t),
         }
     }
 
-    fn read_into(g: Geometry, image: &[u8], at: ObjectLocation, raw: &mut [u8]) -> StateRead
-        requires { length raw.old ≡ size_at g.granularity }
-        ensures { state_answer result ≡ state_at g at image.now }
+    // Whether an object has come this far, and no further.
+    pub fn is(self, state: ObjectState) -> bool
+        ensures { result ≡ eqb (rank_of self) (rank_in state) }
     {
-        let a = medium::read(g, image, at.block, at.offset as usize, raw);
-        let Answered::Done = a else {
-            return StateRead::Refused(a.number());
+        self.state() == state
+    }
+
+    // The bytes before the size field.
+    #[tactic(auto, unfolding(crate::specs::Types::state_in))]
+    fn parse(k: Granularity, raw: &[u8]) -> Result<CompositeObjectState, Refusal>
+        requires { length raw.now ≡ size_at k }
+        ensures { answer_of result ≡ state_in k raw.now }
+    {
+        let Some(kind) = ObjectType::parse(raw[0])? else {
+            return Ok(CompositeObjectState::Free);
         };
-        let k = g.granularity;
-        CompositeObjectState::parse(k, raw)
+        let f = k.finish_at();
+        let d = k.delete_at();
+        let x = ObjectDataState::of_marks(k, raw[f], raw[d])?;
+        Ok(CompositeObjectState::Allocated(kind, x))
+    }
+
+    #[tactic(auto, unfolding(crate::specs::Header::state_at))]
+    fn read_into(
+        g: Geometry,
+        image: &[u8],
+        at: ObjectLocation,
+        raw: &mut [u8],
+    ) -> Result<CompositeObjectState, Refusal>
+        requires { length raw.old ≡ size_at g.granularity }
+        ensures { answer_of result ≡ state_at g at image.now }
+    {
+        medium::read(g, image, at.block, at.offset as usize, raw)?;
+        CompositeObjectState::parse(g.granularity, raw)
     }
 
     // The state of the object at a place.
-    pub fn read(g: Geometry, image: &[u8], at: ObjectLocation) -> StateRead
-        ensures { state_answer result ≡ state_at g at image.now }
+    pub fn read(
+        g: Geometry,
+        image: &[u8],
+        at: ObjectLocation,
+    ) -> Result<CompositeObjectState, Refusal>
+        ensures { answer_of result ≡ state_at g at image.now }
     {
-        let k = g.granularity;
-        let n = k.size_at();
+        let n = g.granularity.size_at();
         let mut buffer = [0u8; Granularity::LONGEST_STATE];
         CompositeObjectState::read_into(g, image, at, &mut buffer[..n])
     }
 
     // Whether an object of type t may be allocated over this state: over Free, or over Allocated of the same type.
-    pub fn allocatable(self, t: ObjectType) -> Answered
-        ensures { answered result tt ≡ allocatable_of t self }
+    #[tactic(auto, unfolding(crate::specs::Header::allocatable_of))]
+    pub fn allocatable(self, t: ObjectType) -> Result<(), Refusal>
+        ensures { answer_of result ≡ allocatable_of t self }
     {
         let CompositeObjectState::Allocated(u, d) = self else {
-            return Answered::Done;
+            return Ok(());
         };
-        if 1 < d.rank() {
-            return Answered::Refused(4);
+        if d != ObjectDataState::Untrusted {
+            return Err(Refusal::InvalidOperation);
         }
-        if t.byte() != u.byte() {
-            return Answered::Refused(4);
+        if t != u {
+            return Err(Refusal::InvalidOperation);
         }
-        Answered::Done
+        Ok(())
     }
 }

@@ -1,38 +1,15 @@
 // The type of an object, and the byte that says it.
 ghost use Rattle.std.specs.Prelude.{◌≡◌};
-ghost use Rattle.objects.specs.Types.{type_byte, type_of, type_answer, object_type_of, object_type_answer, object_type_number};
+ghost use Rattle.medium.specs.Refusal.{answer_of};
+ghost use Rattle.objects.specs.Types.{type_byte, type_of, type_answer, object_type_of};
 
-#[derive(Clone, Copy)]
+use medium::refusal::Refusal;
+
+#[derive(Clone, Copy, Debug, PartialEq, Eq)]
 pub enum ObjectType {
     FileMetadata,
     FileData,
     FileName,
-}
-
-// What a type byte says.
-#[derive(Clone, Copy)]
-pub enum TypeRead {
-    Got(ObjectType),
-    Free,
-    Refused(u8),
-}
-
-// What a number that a caller gives for a type says.
-#[derive(Clone, Copy)]
-pub enum ObjectTypeRead {
-    Got(ObjectType),
-    Refused(u8),
-}
-
-impl ObjectTypeRead {
-    pub fn number(self) -> u8
-        ensures { result ≡ object_type_number self }
-    {
-        match self {
-            ObjectTypeRead::Got(_) => 0,
-            ObjectTypeRead::Refused(k) => k,
-        }
-    }
 }
 
 impl ObjectType {
@@ -44,40 +21,48 @@ impl ObjectType {
 
     pub const FREE: u8 = 0xFF;
 
-    pub fn byte(self) -> u8
-        ensures { result ≡ type_byte self }
-    {
-        match self {
-            ObjectType::FileMetadata => Self::FILE_METADATA,
-            ObjectType::FileData => Self::FILE_DATA,
-            ObjectType::FileName => Self::FILE_NAME,
-        }
-    }
-
-    pub fn parse(b: u8) -> TypeRead
+    // What a type byte says: none where no object is there.
+    #[tactic(auto, unfolding(crate::specs::Types::type_of))]
+    pub fn parse(b: u8) -> Result<Option<ObjectType>, Refusal>
         ensures { type_answer result ≡ type_of b }
     {
         match b {
-            Self::FILE_METADATA => TypeRead::Got(ObjectType::FileMetadata),
-            Self::FILE_DATA => TypeRead::Got(ObjectType::FileData),
-            Self::FILE_NAME => TypeRead::Got(ObjectType::FileName),
-            Self::FREE => TypeRead::Free,
-            _ => TypeRead::Refused(2),
+            Self::FILE_METADATA => Ok(Some(ObjectType::FileMetadata)),
+            Self::FILE_DATA => Ok(Some(ObjectType::FileData)),
+            Self::FILE_NAME => Ok(Some(ObjectType::FileName)),
+            Self::FREE => Ok(None),
+            _ => Err(Refusal::FsCorrupted),
         }
     }
+}
 
-    // The type that a whole number says; none of the three is 4.
-    pub fn of_number(n: u32) -> ObjectTypeRead
-        ensures { object_type_answer result ≡ object_type_of n }
-    {
+// The type that a caller gives as a whole number; 4 where it is none of the three.
+impl TryFrom<u32> for ObjectType {
+    type Error = Refusal;
+
+    ghost try_from_gives = { λ n r. answer_of r ≡ object_type_of n };
+
+    #[tactic(auto, unfolding(crate::specs::Types::object_type_of))]
+    fn try_from(n: u32) -> Result<Self, Refusal> {
         if 255 < n {
-            return ObjectTypeRead::Refused(4);
+            return Err(Refusal::InvalidOperation);
         }
-        let told = ObjectType::parse(n as u8);
-        match told {
-            TypeRead::Got(t) => ObjectTypeRead::Got(t),
-            TypeRead::Free => ObjectTypeRead::Refused(4),
-            TypeRead::Refused(_) => ObjectTypeRead::Refused(4),
+        match ObjectType::parse(n as u8) {
+            Ok(Some(t)) => Ok(t),
+            Ok(None) => Err(Refusal::InvalidOperation),
+            Err(_) => Err(Refusal::InvalidOperation),
+        }
+    }
+}
+
+impl From<ObjectType> for u8 {
+    ghost from_gives = { λ t b. b ≡ type_byte t };
+
+    fn from(t: ObjectType) -> u8 {
+        match t {
+            ObjectType::FileMetadata => ObjectType::FILE_METADATA,
+            ObjectType::FileData => ObjectType::FILE_DATA,
+            ObjectType::FileName => ObjectType::FILE_NAME,
         }
     }
 }

@@ -1,26 +1,22 @@
 -- Made by tools/outcomes. The contract of each public function of blocks allows one outcome.
 use mathlib.Core.Path.{◌≡◌, sym, ◌∙◌}
 use Rattle.outcomes.proofs.One.{One}
-use Rattle.outcomes.proofs.Answers.{block_header_one, block_info_one, counted_one, emptiness_one, kind_one, plan_one, stored_one}
-use Rattle.blocks.proofs.format.Emptiness.number.Reads as format-Emptiness-number
-use Rattle.blocks.proofs.format.Plan.number.Reads as format-Plan-number
+use Rattle.outcomes.proofs.Answers.{plan_one, stored_one}
+use Rattle.medium.proofs.Refusals.{answer_one}
 use Rattle.blocks.proofs.format.is_block_data_empty.Reads as format-is_block_data_empty
 use Rattle.blocks.proofs.format.plan_format.Reads as format-plan_format
 use Rattle.blocks.proofs.format.format_block.Reads as format-format_block
 use Rattle.blocks.proofs.format.format_storage.Reads as format-format_storage
 use Rattle.blocks.proofs.format.set_block_type.Reads as format-set_block_type
-use Rattle.blocks.proofs.header.BlockType.byte.Reads as header-BlockType-byte
-use Rattle.blocks.proofs.header.KindRead.number.Reads as header-KindRead-number
+use Rattle.blocks.proofs.header.U8FromBlockType.from.Reads as header-U8FromBlockType-from
+use Rattle.blocks.proofs.header.U32FromBlockHeaderKind.from.Reads as header-U32FromBlockHeaderKind-from
+use Rattle.blocks.proofs.header.BlockHeaderKindTryFromU32.try_from.Reads as header-BlockHeaderKindTryFromU32-try_from
 use Rattle.blocks.proofs.header.BlockHeaderKind.is_empty.Reads as header-BlockHeaderKind-is_empty
 use Rattle.blocks.proofs.header.BlockHeaderKind.is_known.Reads as header-BlockHeaderKind-is_known
 use Rattle.blocks.proofs.header.BlockHeaderKind.is_unknown.Reads as header-BlockHeaderKind-is_unknown
-use Rattle.blocks.proofs.header.BlockHeaderKind.number.Reads as header-BlockHeaderKind-number
-use Rattle.blocks.proofs.header.BlockHeaderKind.of_number.Reads as header-BlockHeaderKind-of_number
-use Rattle.blocks.proofs.header.BlockHeaderRead.number.Reads as header-BlockHeaderRead-number
 use Rattle.blocks.proofs.header.BlockHeader.read.Reads as header-BlockHeader-read
 use Rattle.blocks.proofs.header.BlockHeader.write.Reads as header-BlockHeader-write
 use Rattle.blocks.proofs.header.BlockHeader.is_empty.Reads as header-BlockHeader-is_empty
-use Rattle.blocks.proofs.record.BlockInfoRead.number.Reads as record-BlockInfoRead-number
 use Rattle.blocks.proofs.record.BlockInfo.new_unknown.Reads as record-BlockInfo-new_unknown
 use Rattle.blocks.proofs.record.BlockInfo.of_numbers.Reads as record-BlockInfo-of_numbers
 use Rattle.blocks.proofs.record.BlockInfo.mark.Reads as record-BlockInfo-mark
@@ -31,14 +27,8 @@ use Rattle.blocks.proofs.record.BlockInfo.update_stats_after_erase.Reads as reco
 use Rattle.blocks.proofs.scan.scan_block.Reads as scan-scan_block
 use Rattle.blocks.proofs.scan.calculate_freeable_space.Reads as scan-calculate_freeable_space
 
-pub format_Emptiness_number_one : One format-Emptiness-number.Post (λ _ r e r' e'. r ≡ r')
-format_Emptiness_number_one _ _ r r' e e' p q = p ∙ sym q
-
-pub format_Plan_number_one : One format-Plan-number.Post (λ _ r e r' e'. r ≡ r')
-format_Plan_number_one _ _ r r' e e' p q = p ∙ sym q
-
 pub format_is_block_data_empty_one : One format-is_block_data_empty.Post (λ _ r e r' e'. r ≡ r')
-format_is_block_data_empty_one _ _ r r' e e' p q = emptiness_one (p ∙ sym q)
+format_is_block_data_empty_one _ _ r r' e e' p q = answer_one r r' (p ∙ sym q)
 
 pub format_plan_format_one : One format-plan_format.Post (λ _ r e r' e'. r ≡ r')
 format_plan_format_one _ _ r r' e e' p q = plan_one (p ∙ sym q)
@@ -52,11 +42,14 @@ format_format_storage_one _ _ r r' e e' p q = stored_one r r' _ _ _ p q
 pub format_set_block_type_one : One format-set_block_type.Post (λ _ r e r' e'. (r ≡ r') × (e.1.0.now ≡ e'.1.0.now))
 format_set_block_type_one _ _ r r' e e' p q = stored_one r r' _ _ _ p q
 
-pub header_BlockType_byte_one : One header-BlockType-byte.Post (λ _ r e r' e'. r ≡ r')
-header_BlockType_byte_one _ _ r r' e e' p q = p ∙ sym q
+pub header_U8FromBlockType_from_one : One header-U8FromBlockType-from.Post (λ _ r e r' e'. r ≡ r')
+header_U8FromBlockType_from_one _ _ r r' e e' p q = p ∙ sym q
 
-pub header_KindRead_number_one : One header-KindRead-number.Post (λ _ r e r' e'. r ≡ r')
-header_KindRead_number_one _ _ r r' e e' p q = p ∙ sym q
+pub header_U32FromBlockHeaderKind_from_one : One header-U32FromBlockHeaderKind-from.Post (λ _ r e r' e'. r ≡ r')
+header_U32FromBlockHeaderKind_from_one _ _ r r' e e' p q = p ∙ sym q
+
+pub header_BlockHeaderKindTryFromU32_try_from_one : One header-BlockHeaderKindTryFromU32-try_from.Post (λ _ r e r' e'. r ≡ r')
+header_BlockHeaderKindTryFromU32_try_from_one _ _ r r' e e' p q = answer_one r r' (p ∙ sym q)
 
 pub header_BlockHeaderKind_is_empty_one : One header-BlockHeaderKind-is_empty.Post (λ _ r e r' e'. r ≡ r')
 header_BlockHeaderKind_is_empty_one _ _ r r' e e' p q = p ∙ sym q
@@ -67,17 +60,8 @@ header_BlockHeaderKind_is_known_one _ _ r r' e e' p q = p ∙ sym q
 pub header_BlockHeaderKind_is_unknown_one : One header-BlockHeaderKind-is_unknown.Post (λ _ r e r' e'. r ≡ r')
 header_BlockHeaderKind_is_unknown_one _ _ r r' e e' p q = p ∙ sym q
 
-pub header_BlockHeaderKind_number_one : One header-BlockHeaderKind-number.Post (λ _ r e r' e'. r ≡ r')
-header_BlockHeaderKind_number_one _ _ r r' e e' p q = p ∙ sym q
-
-pub header_BlockHeaderKind_of_number_one : One header-BlockHeaderKind-of_number.Post (λ _ r e r' e'. r ≡ r')
-header_BlockHeaderKind_of_number_one _ _ r r' e e' p q = kind_one (p ∙ sym q)
-
-pub header_BlockHeaderRead_number_one : One header-BlockHeaderRead-number.Post (λ _ r e r' e'. r ≡ r')
-header_BlockHeaderRead_number_one _ _ r r' e e' p q = p ∙ sym q
-
 pub header_BlockHeader_read_one : One header-BlockHeader-read.Post (λ _ r e r' e'. r ≡ r')
-header_BlockHeader_read_one _ _ r r' e e' p q = block_header_one (p ∙ sym q)
+header_BlockHeader_read_one _ _ r r' e e' p q = answer_one r r' (p ∙ sym q)
 
 pub header_BlockHeader_write_one : One header-BlockHeader-write.Post (λ _ r e r' e'. (r ≡ r') × (e.1.1.0.now ≡ e'.1.1.0.now))
 header_BlockHeader_write_one _ _ r r' e e' p q = stored_one r r' _ _ _ p q
@@ -85,32 +69,29 @@ header_BlockHeader_write_one _ _ r r' e e' p q = stored_one r r' _ _ _ p q
 pub header_BlockHeader_is_empty_one : One header-BlockHeader-is_empty.Post (λ _ r e r' e'. r ≡ r')
 header_BlockHeader_is_empty_one _ _ r r' e e' p q = p ∙ sym q
 
-pub record_BlockInfoRead_number_one : One record-BlockInfoRead-number.Post (λ _ r e r' e'. r ≡ r')
-record_BlockInfoRead_number_one _ _ r r' e e' p q = p ∙ sym q
-
 pub record_BlockInfo_new_unknown_one : One record-BlockInfo-new_unknown.Post (λ _ r e r' e'. r ≡ r')
 record_BlockInfo_new_unknown_one _ _ r r' e e' p q = p ∙ sym q
 
 pub record_BlockInfo_of_numbers_one : One record-BlockInfo-of_numbers.Post (λ _ r e r' e'. r ≡ r')
-record_BlockInfo_of_numbers_one _ _ r r' e e' p q = block_info_one (p ∙ sym q)
+record_BlockInfo_of_numbers_one _ _ r r' e e' p q = answer_one r r' (p ∙ sym q)
 
 pub record_BlockInfo_mark_one : One record-BlockInfo-mark.Post (λ _ r e r' e'. r ≡ r')
 record_BlockInfo_mark_one _ _ r r' e e' p q = p ∙ sym q
 
 pub record_BlockInfo_free_space_one : One record-BlockInfo-free_space.Post (λ _ r e r' e'. r ≡ r')
-record_BlockInfo_free_space_one _ _ r r' e e' p q = counted_one (p ∙ sym q)
+record_BlockInfo_free_space_one _ _ r r' e e' p q = answer_one r r' (p ∙ sym q)
 
 pub record_BlockInfo_is_empty_one : One record-BlockInfo-is_empty.Post (λ _ r e r' e'. r ≡ r')
-record_BlockInfo_is_empty_one _ _ r r' e e' p q = emptiness_one (p ∙ sym q)
+record_BlockInfo_is_empty_one _ _ r r' e e' p q = answer_one r r' (p ∙ sym q)
 
 pub record_BlockInfo_add_used_bytes_one : One record-BlockInfo-add_used_bytes.Post (λ _ r e r' e'. r ≡ r')
-record_BlockInfo_add_used_bytes_one _ _ r r' e e' p q = block_info_one (p ∙ sym q)
+record_BlockInfo_add_used_bytes_one _ _ r r' e e' p q = answer_one r r' (p ∙ sym q)
 
 pub record_BlockInfo_update_stats_after_erase_one : One record-BlockInfo-update_stats_after_erase.Post (λ _ r e r' e'. r ≡ r')
-record_BlockInfo_update_stats_after_erase_one _ _ r r' e e' p q = block_info_one (p ∙ sym q)
+record_BlockInfo_update_stats_after_erase_one _ _ r r' e e' p q = answer_one r r' (p ∙ sym q)
 
 pub scan_scan_block_one : One scan-scan_block.Post (λ _ r e r' e'. r ≡ r')
-scan_scan_block_one _ _ r r' e e' p q = block_info_one (p ∙ sym q)
+scan_scan_block_one _ _ r r' e e' p q = answer_one r r' (p ∙ sym q)
 
 pub scan_calculate_freeable_space_one : One scan-calculate_freeable_space.Post (λ _ r e r' e'. r ≡ r')
-scan_calculate_freeable_space_one _ _ r r' e e' p q = counted_one (p ∙ sym q)
+scan_calculate_freeable_space_one _ _ r r' e e' p q = answer_one r r' (p ∙ sym q)

@@ -1,34 +1,28 @@
 -- Made by tools/outcomes. The contract of each public function of crossing allows one outcome.
 use mathlib.Core.Path.{◌≡◌, sym, ap, ◌∙◌}
+use denote.RattleType.{RattleType}
+use denote.Param.Laws.{Laws, IsCopy}
+use Rattle.std.specs.declared.clone.Clone.{Ghosts}
+use mir.Syntax.{Dict}
+use Rattle.crossing.specs.declared.hand.Crosses as crosses
 use Rattle.outcomes.proofs.One.{One}
-use Rattle.outcomes.proofs.Answers.{block_info_one, block_type_one, header_one, metadata_one, reader_one, state_one, target_one}
+use Rattle.medium.proofs.Refusals.{answer_one}
 use Rattle.crossing.specs.Crossing.{Telling}
 use Rattle.crossing.proofs.call.geometry.Reads as call-geometry
 use Rattle.crossing.proofs.call.refusal.Reads as call-refusal
 use Rattle.crossing.proofs.call.refusal_alone.Reads as call-refusal_alone
 use Rattle.crossing.proofs.call.fuse_of.Reads as call-fuse_of
 use Rattle.crossing.proofs.call.hand_back.Reads as call-hand_back
-use Rattle.crossing.proofs.call.hand_count.Reads as call-hand_count
-use Rattle.crossing.proofs.outs.type_number.Reads as outs-type_number
-use Rattle.crossing.proofs.outs.put_header.Reads as outs-put_header
+use Rattle.crossing.proofs.hand.hand.Reads as hand-hand
 use Rattle.crossing.proofs.outs.hand_back.Reads as outs-hand_back
-use Rattle.crossing.proofs.outs.hand_header.Reads as outs-hand_header
 use Rattle.crossing.proofs.outs.hand_info.Reads as outs-hand_info
-use Rattle.crossing.proofs.outs.put_location.Reads as outs-put_location
-use Rattle.crossing.proofs.outs.hand_location.Reads as outs-hand_location
-use Rattle.crossing.proofs.outs.put_iterator.Reads as outs-put_iterator
 use Rattle.crossing.proofs.outs.start.Reads as outs-start
 use Rattle.crossing.proofs.outs.hand_next.Reads as outs-hand_next
-use Rattle.crossing.proofs.records.BlockTypeRead.number.Reads as records-BlockTypeRead-number
 use Rattle.crossing.proofs.records.type_of.Reads as records-type_of
 use Rattle.crossing.proofs.records.record_of.Reads as records-record_of
-use Rattle.crossing.proofs.records.hand_header.Reads as records-hand_header
-use Rattle.crossing.proofs.records.hand_record.Reads as records-hand_record
-use Rattle.crossing.proofs.records.hand_flag.Reads as records-hand_flag
 use Rattle.crossing.proofs.values.state_of.Reads as values-state_of
 use Rattle.crossing.proofs.values.header_from.Reads as values-header_from
 use Rattle.crossing.proofs.values.header_of.Reads as values-header_of
-use Rattle.crossing.proofs.values.TargetRead.number.Reads as values-TargetRead-number
 use Rattle.crossing.proofs.values.target_of.Reads as values-target_of
 use Rattle.crossing.proofs.values.iterator_of.Reads as values-iterator_of
 use Rattle.crossing.proofs.values.reader_of.Reads as values-reader_of
@@ -49,32 +43,14 @@ call_fuse_of_one _ _ r r' e e' p q = p ∙ sym q
 pub call_hand_back_one : One call-hand_back.Post (λ _ r e r' e'. (r ≡ r') × (e.1.0.now ≡ e'.1.0.now))
 call_hand_back_one _ _ r r' e e' p q = (p.0 ∙ sym q.0, p.1 ∙ sym q.1)
 
-pub call_hand_count_one : One call-hand_count.Post (λ _ r e r' e'. (r ≡ r') × (e.1.0.now ≡ e'.1.0.now))
-call_hand_count_one _ _ r r' e e' p q = let s = p ∙ sym q in (ap (λ (z : Telling _). z.number) s, ap (λ (z : Telling _). z.out) s)
-
-pub outs_type_number_one : One outs-type_number.Post (λ _ r e r' e'. r ≡ r')
-outs_type_number_one _ _ r r' e e' p q = p ∙ sym q
-
-pub outs_put_header_one : One outs-put_header.Post (λ _ r e r' e'. e.1.0.now ≡ e'.1.0.now)
-outs_put_header_one _ _ r r' e e' p q = p ∙ sym q
+pub hand_hand_one : (T N : RattleType) (l : Laws T) (m : Laws N) (c : IsCopy T) (k : IsCopy N) (x : crosses.Ghosts T.Denot N.Denot) (b : Dict) (g : Ghosts T.Denot) (d : Dict) (h : Ghosts N.Denot) (i : Dict) → One (hand-hand.Post T N l m c k x b g d h i) (λ _ r e r' e'. (r ≡ r') × (e.1.0.now ≡ e'.1.0.now))
+hand_hand_one T N l m c k x b g d h i _ _ r r' e e' p q = let s = p ∙ sym q in (ap (λ (z : Telling _). z.number) s, ap (λ (z : Telling _). z.out) s)
 
 pub outs_hand_back_one : One outs-hand_back.Post (λ _ r e r' e'. (r ≡ r') × (e.1.0.now ≡ e'.1.0.now) × (e.1.1.0.now ≡ e'.1.1.0.now))
 outs_hand_back_one _ _ r r' e e' p q = (p.0 ∙ sym q.0, p.1.0 ∙ sym q.1.0, p.1.1 ∙ sym q.1.1)
 
-pub outs_hand_header_one : One outs-hand_header.Post (λ _ r e r' e'. (r ≡ r') × (e.1.0.now ≡ e'.1.0.now))
-outs_hand_header_one _ _ r r' e e' p q = let s = p ∙ sym q in (ap (λ (z : Telling _). z.number) s, ap (λ (z : Telling _). z.out) s)
-
 pub outs_hand_info_one : One outs-hand_info.Post (λ _ r e r' e'. (r ≡ r') × (e.1.0.now ≡ e'.1.0.now) × (e.1.1.0.now ≡ e'.1.1.0.now))
 outs_hand_info_one _ _ r r' e e' p q = let s = p ∙ sym q in (ap (λ (z : Telling _). z.number) s, ap (λ (z : Telling _). z.out.first) s, ap (λ (z : Telling _). z.out.second) s)
-
-pub outs_put_location_one : One outs-put_location.Post (λ _ r e r' e'. e.1.0.now ≡ e'.1.0.now)
-outs_put_location_one _ _ r r' e e' p q = p ∙ sym q
-
-pub outs_hand_location_one : One outs-hand_location.Post (λ _ r e r' e'. (r ≡ r') × (e.1.0.now ≡ e'.1.0.now))
-outs_hand_location_one _ _ r r' e e' p q = let s = p ∙ sym q in (ap (λ (z : Telling _). z.number) s, ap (λ (z : Telling _). z.out) s)
-
-pub outs_put_iterator_one : One outs-put_iterator.Post (λ _ r e r' e'. e.1.0.now ≡ e'.1.0.now)
-outs_put_iterator_one _ _ r r' e e' p q = p ∙ sym q
 
 pub outs_start_one : One outs-start.Post (λ _ r e r' e'. (r ≡ r') × (e.1.1.0.now ≡ e'.1.1.0.now))
 outs_start_one _ _ r r' e e' p q = let s = p ∙ sym q in (ap (λ (z : Telling _). z.number) s, ap (λ (z : Telling _). z.out) s)
@@ -82,44 +58,29 @@ outs_start_one _ _ r r' e e' p q = let s = p ∙ sym q in (ap (λ (z : Telling _
 pub outs_hand_next_one : One outs-hand_next.Post (λ _ r e r' e'. (r ≡ r') × (e.1.0.now ≡ e'.1.0.now) × (e.1.1.0.now ≡ e'.1.1.0.now) × (e.1.1.1.0.now ≡ e'.1.1.1.0.now))
 outs_hand_next_one _ _ r r' e e' p q = let s = p ∙ sym q in (ap (λ (z : Telling _). z.number) s, ap (λ (z : Telling _). z.out.first) s, ap (λ (z : Telling _). z.out.second.first) s, ap (λ (z : Telling _). z.out.second.second) s)
 
-pub records_BlockTypeRead_number_one : One records-BlockTypeRead-number.Post (λ _ r e r' e'. r ≡ r')
-records_BlockTypeRead_number_one _ _ r r' e e' p q = p ∙ sym q
-
 pub records_type_of_one : One records-type_of.Post (λ _ r e r' e'. r ≡ r')
-records_type_of_one _ _ r r' e e' p q = block_type_one (p ∙ sym q)
+records_type_of_one _ _ r r' e e' p q = answer_one r r' (p ∙ sym q)
 
 pub records_record_of_one : One records-record_of.Post (λ _ r e r' e'. r ≡ r')
-records_record_of_one _ _ r r' e e' p q = block_info_one (p ∙ sym q)
-
-pub records_hand_header_one : One records-hand_header.Post (λ _ r e r' e'. (r ≡ r') × (e.1.0.now ≡ e'.1.0.now))
-records_hand_header_one _ _ r r' e e' p q = let s = p ∙ sym q in (ap (λ (z : Telling _). z.number) s, ap (λ (z : Telling _). z.out) s)
-
-pub records_hand_record_one : One records-hand_record.Post (λ _ r e r' e'. (r ≡ r') × (e.1.0.now ≡ e'.1.0.now))
-records_hand_record_one _ _ r r' e e' p q = let s = p ∙ sym q in (ap (λ (z : Telling _). z.number) s, ap (λ (z : Telling _). z.out) s)
-
-pub records_hand_flag_one : One records-hand_flag.Post (λ _ r e r' e'. (r ≡ r') × (e.1.0.now ≡ e'.1.0.now))
-records_hand_flag_one _ _ r r' e e' p q = let s = p ∙ sym q in (ap (λ (z : Telling _). z.number) s, ap (λ (z : Telling _). z.out) s)
+records_record_of_one _ _ r r' e e' p q = answer_one r r' (p ∙ sym q)
 
 pub values_state_of_one : One values-state_of.Post (λ _ r e r' e'. r ≡ r')
-values_state_of_one _ _ r r' e e' p q = state_one (p ∙ sym q)
+values_state_of_one _ _ r r' e e' p q = answer_one r r' (p ∙ sym q)
 
 pub values_header_from_one : One values-header_from.Post (λ _ r e r' e'. r ≡ r')
-values_header_from_one _ _ r r' e e' p q = header_one (p ∙ sym q)
+values_header_from_one _ _ r r' e e' p q = answer_one r r' (p ∙ sym q)
 
 pub values_header_of_one : One values-header_of.Post (λ _ r e r' e'. r ≡ r')
-values_header_of_one _ _ r r' e e' p q = header_one (p ∙ sym q)
-
-pub values_TargetRead_number_one : One values-TargetRead-number.Post (λ _ r e r' e'. r ≡ r')
-values_TargetRead_number_one _ _ r r' e e' p q = p ∙ sym q
+values_header_of_one _ _ r r' e e' p q = answer_one r r' (p ∙ sym q)
 
 pub values_target_of_one : One values-target_of.Post (λ _ r e r' e'. r ≡ r')
-values_target_of_one _ _ r r' e e' p q = target_one (p ∙ sym q)
+values_target_of_one _ _ r r' e e' p q = answer_one r r' (p ∙ sym q)
 
 pub values_iterator_of_one : One values-iterator_of.Post (λ _ r e r' e'. r ≡ r')
 values_iterator_of_one _ _ r r' e e' p q = p ∙ sym q
 
 pub values_reader_of_one : One values-reader_of.Post (λ _ r e r' e'. r ≡ r')
-values_reader_of_one _ _ r r' e e' p q = reader_one (p ∙ sym q)
+values_reader_of_one _ _ r r' e e' p q = answer_one r r' (p ∙ sym q)
 
 pub values_metadata_of_one : One values-metadata_of.Post (λ _ r e r' e'. r ≡ r')
-values_metadata_of_one _ _ r r' e e' p q = metadata_one (p ∙ sym q)
+values_metadata_of_one _ _ r r' e e' p q = answer_one r r' (p ∙ sym q)

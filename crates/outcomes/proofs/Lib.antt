@@ -18,4 +18,5 @@ pub mod Sweep
 pub mod Powercut
 pub mod Crossing
 pub mod GeometryRecord
+pub mod Files
 pub mod Cuts

@@ -1,8 +1,8 @@
 -- Made by tools/outcomes. The contract of each public function of powercut allows one outcome.
 use mathlib.Core.Path.{◌≡◌}
 use Rattle.outcomes.proofs.One.{One}
-use Rattle.outcomes.proofs.Answers.{headed_one}
+use Rattle.outcomes.proofs.Answers.{handed_one}
 use Rattle.powercut.proofs.move_object.Reads as move_object
 
 pub move_object_one : One move_object.Post (λ _ r e r' e'. (r ≡ r') × (e.1.0.now ≡ e'.1.0.now))
-move_object_one _ _ r r' e e' p q = headed_one r r' _ _ _ _ p.0 q.0 p.1.0 q.1.0
+move_object_one _ _ r r' e e' p q = handed_one r r' _ _ _ p.0 q.0

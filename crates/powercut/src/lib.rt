@@ -8,26 +8,26 @@
 #![tactic(auto)]
 
 ghost use Rattle.std.specs.Prelude.{◌≡◌};
-ghost use Rattle.medium.specs.Operation.{run, ended_by, unless_stored};
+ghost use Rattle.medium.specs.Operation.{run, ended_with};
 ghost use Rattle.moving.specs.Moving.{move_object};
 ghost use Rattle.powercut.specs.Call.{Survived};
 
-use medium::fuse::Fuse;
+use medium::fuse::{Ended, Fuse};
 use medium::geometry::Geometry;
-use objects::header::{Headed, ObjectHeader};
+use objects::header::ObjectHeader;
 use objects::location::ObjectLocation;
 
 // Moves an object. Whenever the power goes, the original or the copy reads finished and whole, where the demand's conditions are met.
+#[tactic(auto, using(crate::proofs::Survive::call_survives))]
 pub fn move_object(
     g: Geometry,
     image: &mut [u8],
     f: Fuse,
     h: ObjectHeader,
     to: ObjectLocation,
-) -> Headed
-    ensures image_after { ended_by result.answer result.header image.new ≡ run f (move_object g h to) image.old }
-    ensures header_value { result.header ≡ unless_stored result.answer h result.header }
-    ensures survived { Survived g h to image.old f (ended_by result.answer result.header image.new) }
+) -> Ended<ObjectHeader>
+    ensures image_after { ended_with result image.new ≡ run f (move_object g h to) image.old }
+    ensures survived { Survived g h to image.old f (ended_with result image.new) }
 {
     moving::move_object(g, image, f, h, to)
 }

@@ -1,5 +1,5 @@
 -- The starred rows, as one table under one theorem, over the definitions that the contracts cite. Each row is a test of what these compute.
-use Rattle.std.specs.Prelude.{Bool, true, false, ◌&&◌, not, List, [], ◌∷◌, ◌++◌, ℕ, ◌+◌, ◌-◌, get_or, replicate, eqb}
+use Rattle.std.specs.Prelude.{Bool, true, false, ◌&&◌, not, List, [], ◌∷◌, ◌++◌, ℕ, ◌+◌, ◌-◌, get_or, replicate, eqb, Option, Some, None}
 use Rattle.medium.specs.declared.granularity.Granularity.{Granularity}
 use Rattle.medium.specs.declared.granularity.Granularity.TheVariants.{Bit, Word1, Word4}
 use Rattle.medium.specs.declared.fuse.Fuse.TheVariants.{Absent, Units}
@@ -12,8 +12,6 @@ use Rattle.objects.specs.declared.state.CompositeObjectState.TheVariants as comp
 use Rattle.objects.specs.declared.location.ObjectLocation.{ObjectLocation}
 use Rattle.objects.specs.declared.header.ObjectHeader.{ObjectHeader}
 use Rattle.objects.specs.declared.reader.ObjectReader.{ObjectReader}
-use Rattle.objects.specs.declared.header.PayloadSize.{PayloadSize}
-use Rattle.objects.specs.declared.header.PayloadSize.TheVariants.{Set, Unset}
 use Rattle.objects.specs.Types.{type_byte, rank_of}
 use Rattle.objects.specs.Header.{state_at, header_at, payload_size_of, update_state}
 use Rattle.objects.specs.Info.{info_at, total_of, span_of}
@@ -91,9 +89,9 @@ corrupted bs =
 
 -- ---- row 7: an unset size
 
-abbrev is_unset : PayloadSize → Bool
-is_unset (Set n) = false
-is_unset Unset = true
+abbrev is_unset : Option ℕ → Bool
+is_unset (Some n) = false
+is_unset None = true
 
 abbrev unset_test : Answer ObjectHeader → ℕ → Bool
 unset_test (done h) total = is_unset (payload_size_of 1 h) && eqb (total_of Bit 1 h) total

@@ -58,11 +58,11 @@ module _ (g : Geometry) (t : BlockType) (img : List ℕ) (c : check_of g (length
         go false q f r = r
 
     -- the next step meets it, or goes on
-    met-head : (h : ObjectHeader) (w : Visitor) → step_of g v (next_of g v.place img) ≡ step.Object h w → Head v h
+    met-head : (h : ObjectHeader) (w : Visitor) → step_of g v (next_of g v.place img) ≡ done (step.Object h w) → Head v h
     unfolding step_of
     met-head h w e = go (next_of g v.place img) refl e
       where
-        met : (b : Bool) (p : ObjectHeader) (j : ObjectIterator) → next_of g v.place img ≡ done (object p j) → pick b (step.Object p (open_visit j)) (step.On (open_visit j)) ≡ step.Object h w → Head v h
+        met : (b : Bool) (p : ObjectHeader) (j : ObjectIterator) → next_of g v.place img ≡ done (object p j) → ◌≡◌ {A = Answer Step} (done (pick b (step.Object p (open_visit j)) (step.On (open_visit j)))) (done (step.Object h w)) → Head v h
         met true p j q r =
             let a : p ≡ h = cc in
             let f = next_found g v.place img p j q in
@@ -75,37 +75,37 @@ module _ (g : Geometry) (t : BlockType) (img : List ℕ) (c : check_of g (length
             }
         met false p j q r = let z : ◌≡◌ {A = ℕ} 0 1 = cc in absurd (omega arith)
 
-        go : (m : Answer Met) → next_of g v.place img ≡ m → step_of g v m ≡ step.Object h w → Head v h
+        go : (m : Answer Met) → next_of g v.place img ≡ m → step_of g v m ≡ done (step.Object h w) → Head v h
         go (done (object p j)) q r = met (is_finished p) p j q r
         go (done free_place) q r = let z : ◌≡◌ {A = ℕ} 0 1 = cc in absurd (omega arith)
         go (done block_end) q r = let z : ◌≡◌ {A = ℕ} 0 1 = cc in absurd (omega arith)
         go (refused n) q r = let z : ◌≡◌ {A = ℕ} 0 1 = cc in absurd (omega arith)
 
-    known_on : (w : Visitor) → step_of g v (next_of g v.place img) ≡ step.On w → Known w
+    known_on : (w : Visitor) → step_of g v (next_of g v.place img) ≡ done (step.On w) → Known w
     unfolding step_of
     known_on w e = go (next_of g v.place img) refl e
       where
         shut : (b : ℕ) → start_visit g b ≡ w → Known w
         shut b q o = let z : false ≡ true = ap (λ (x : Visitor). x.opened) q ∙ o in absurd (false≢true z)
 
-        met : (b : Bool) (p : ObjectHeader) (j : ObjectIterator) → next_of g v.place img ≡ done (object p j) → pick b (step.Object p (open_visit j)) (step.On (open_visit j)) ≡ step.On w → Known w
+        met : (b : Bool) (p : ObjectHeader) (j : ObjectIterator) → next_of g v.place img ≡ done (object p j) → ◌≡◌ {A = Answer Step} (done (pick b (step.Object p (open_visit j)) (step.On (open_visit j)))) (done (step.On w)) → Known w
         met true p j q r = let z : ◌≡◌ {A = ℕ} 0 1 = cc in absurd (omega arith)
         met false p j q r =
             let s : open_visit j ≡ w = cc in
             λ _. ap (λ (x : Visitor). is_of g t x.place.location.block img) (sym s) ∙ ap (λ (b : ℕ). is_of g t b img) (next_moves g v.place img p j q).block ∙ known-block
 
-        go : (m : Answer Met) → next_of g v.place img ≡ m → step_of g v m ≡ step.On w → Known w
+        go : (m : Answer Met) → next_of g v.place img ≡ m → step_of g v m ≡ done (step.On w) → Known w
         go (done (object p j)) q r = met (is_finished p) p j q r
         go (done free_place) q r = shut (v.place.location.block + 1) cc
         go (done block_end) q r = shut (v.place.location.block + 1) cc
         go (refused n) q r = let z : ◌≡◌ {A = ℕ} 0 1 = cc in absurd (omega arith)
 
     -- and on it stands further on
-    ahead-on : (w : Visitor) → step_of g v (next_of g v.place img) ≡ step.On w → (l : ObjectLocation) → Ahead w l → Ahead v l
+    ahead-on : (w : Visitor) → step_of g v (next_of g v.place img) ≡ done (step.On w) → (l : ObjectLocation) → Ahead w l → Ahead v l
     unfolding step_of
     ahead-on w e l a = go (next_of g v.place img) refl e
       where
-        met : (b : Bool) (p : ObjectHeader) (j : ObjectIterator) → next_of g v.place img ≡ done (object p j) → pick b (step.Object p (open_visit j)) (step.On (open_visit j)) ≡ step.On w → Ahead v l
+        met : (b : Bool) (p : ObjectHeader) (j : ObjectIterator) → next_of g v.place img ≡ done (object p j) → ◌≡◌ {A = Answer Step} (done (pick b (step.Object p (open_visit j)) (step.On (open_visit j)))) (done (step.On w)) → Ahead v l
         met true p j q r = let z : ◌≡◌ {A = ℕ} 0 1 = cc in absurd (omega arith)
         met false p j q r = let s : open_visit j ≡ w = cc in further (next_moves g v.place img p j q) (subst (λ (x : Visitor). Ahead x l) (sym s) a)
           where
@@ -113,7 +113,7 @@ module _ (g : Geometry) (t : BlockType) (img : List ℕ) (c : check_of g (length
             further m (inl x) = inl (omega (arith, m.block))
             further m (inr x) = inr (sym m.block ∙ x.0, omega (arith, m.forward, x.1))
 
-        go : (m : Answer Met) → next_of g v.place img ≡ m → step_of g v m ≡ step.On w → Ahead v l
+        go : (m : Answer Met) → next_of g v.place img ≡ m → step_of g v m ≡ done (step.On w) → Ahead v l
         go (done (object p j)) q r = met (is_finished p) p j q r
         go (done free_place) q r = let s : start_visit g (v.place.location.block + 1) ≡ w = cc in next_ahead v l (subst (λ (x : Visitor). Ahead x l) (sym s) a)
         go (done block_end) q r = let s : start_visit g (v.place.location.block + 1) ≡ w = cc in next_ahead v l (subst (λ (x : Visitor). Ahead x l) (sym s) a)
@@ -130,16 +130,16 @@ module _ (g : Geometry) (t : BlockType) (img : List ℕ) (c : check_of g (length
       Rest : Type 0
       Rest = (w : Visitor) → togo g w < n → Known w → (tour_from g t w img).objects ≡ h ∷ hs → Head w h
 
-      stepped : v.place.location.block < g.count → open_of g t v img ≡ done true → (s : Step) → step_of g v (next_of g v.place img) ≡ s → Rest → Head v h
-      stepped lt o (step.Object p w) q more =
+      stepped : v.place.location.block < g.count → open_of g t v img ≡ done true → (s : Answer Step) → step_of g v (next_of g v.place img) ≡ s → Rest → Head v h
+      stepped lt o (done (step.Object p w)) q more =
           let z : tour_from g t v img ≡ first_then p (tour_from g t w img) = tour-step g t img v c lt o ∙ ap (step_tour g t img) q in
           let y : p ∷ (tour_from g t w img).objects ≡ h ∷ hs = sym (ap (λ (x : Tour). x.objects) z) ∙ e in
           let x : p ≡ h = cc in
           subst (λ (x : ObjectHeader). Head v x) x (met-head v lt k o p w q)
-      stepped lt o (step.On w) q more =
+      stepped lt o (done (step.On w)) q more =
           let z : tour_from g t v img ≡ tour_from g t w img = tour-step g t img v c lt o ∙ ap (step_tour g t img) q in
           same_head v w h z (ahead-on v lt k o w q h.location) (more w (omega (arith, step-nearer g t img v c lt w q)) (known_on v lt k o w q) (ap (λ (x : Tour). x.objects) (sym z) ∙ e))
-      stepped lt o (step.Refused m) q more = absurd (no_head h hs (ap (λ (x : Tour). x.objects) (sym (tour-step g t img v c lt o ∙ ap (step_tour g t img) q)) ∙ e))
+      stepped lt o (refused m) q more = absurd (no_head h hs (ap (λ (x : Tour). x.objects) (sym (tour-step g t img v c lt o ∙ ap (step_tour g t img) q)) ∙ e))
 
       opened : v.place.location.block < g.count → (a : Answer Bool) → open_of g t v img ≡ a → Rest → Head v h
       opened lt (done true) q more = stepped lt q (step_of g v (next_of g v.place img)) refl more

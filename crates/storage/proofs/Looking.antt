@@ -1,12 +1,13 @@
 -- A lookup, a step at a time: the turns of 16 bytes, and the objects of the tour.
-use mathlib.Core.Path.{◌≡◌, refl, sym, ap, ap₂, ◌∙◌}
+use mathlib.Core.Path.{◌≡◌, refl, sym, ap, ◌∙◌}
 use mathlib.Core.Logic.{◌⊎◌, inl, inr}
 use mathlib.Core.Bool.{Bool, true, false}
-use mathlib.Core.List.{List, [], ◌∷◌}
+use mathlib.Core.List.{List, [], ◌∷◌, ◌++◌, append-nil}
 use Prim.Native.Nat.{ℕ, zero, suc, ◌+◌, ◌-◌, ◌≤◌, ◌<◌, min}
 use native.Mathlib.Omega.{arith}
-use lib.ListN.{length, take, drop, length-drop, drop_of_length-le}
-use lib.Seq.{take_all, drop-drop}
+use lib.ListN.{length, take, drop, length-drop, length-append, drop_of_length-le}
+use lib.Seq.{take_all, take_at, drop_at}
+use Rattle.std.specs.Prelude.{Some, Ok}
 use Rattle.medium.specs.declared.geometry.Geometry.{Geometry}
 use Rattle.medium.specs.Granularity.{pick}
 use Rattle.medium.specs.Geometry.{check_of}
@@ -17,7 +18,6 @@ use Rattle.objects.specs.declared.header.ObjectHeader.{ObjectHeader}
 use Rattle.objects.specs.Payload.{equal}
 use Rattle.blocks.specs.declared.header.BlockType.TheVariants.{Metadata}
 use Rattle.storage.specs.declared.visit.Visitor.{Visitor}
-use Rattle.storage.specs.declared.visit.Visited.TheVariants as visited
 use Rattle.storage.specs.Order.{Tour, first_then, start_visit, tour_from, object, store_end, first_seen, next_visit, Goes}
 use Rattle.storage.specs.Lookup.{same_from, is_named, first_named, lookup}
 use Rattle.medium.proofs.Runs.{leb_is}
@@ -25,6 +25,10 @@ use Rattle.objects.proofs.Answers.{gate_on}
 use Rattle.storage.proofs.Order.{seen_check}
 
 -- ---- the turns
+
+none_left : (xs : List ℕ) → length xs ≡ 0 → xs ≡ []
+none_left [] e = refl
+none_left (x ∷ xs) e = absurd (omega arith)
 
 module _ (g : Geometry) (b : ℕ) (img : List ℕ) where
   -- nothing is left of the path
@@ -60,56 +64,44 @@ module _ (g : Geometry) (b : ℕ) (img : List ℕ) where
       ap (λ (y : Answer Bool). and_then (read_at g b a (min 16 (length (x ∷ xs))) img) (λ bs. pick (equal bs (take 16 (x ∷ xs))) y (done false)))
       (same_enough n (suc n) (a + 16) (drop 16 (x ∷ xs)) (omega (arith, l)) (omega (arith, l)))
 
-  -- the same as the code has it: i bytes are compared, and n come next
-  module _ (at : ℕ) (path : List ℕ) (i n : ℕ) (lt : i < length path) (e : n ≡ min 16 (length path - i)) where
-    left : length (drop i path) ≡ length path - i
-    left = length-drop i path
+  -- the same as the code has it: what is left of the path is this turn and what comes behind it
+  module _ (at : ℕ) (left turn behind : List ℕ) (e : left ≡ turn ++ behind) (l : length turn ≡ min 16 (length left)) (some : 0 < length left) where
+    whole : length left ≡ length turn + length behind
+    whole = ap length e ∙ length-append turn behind
 
-    here : same_from (length path - i) g b (at + i) (drop i path) img ≡ and_then (read_at g b (at + i) n img) (turned (length path - i) (at + i) (drop i path))
-    here =
-        turn_by (length path - i) (at + i) (drop i path) (omega (arith, left)) (omega (arith, left))
-        ∙ ap (λ (k : ℕ). and_then (read_at g b (at + i) k img) (turned (length path - i) (at + i) (drop i path))) (ap (λ (k : ℕ). min 16 k) left ∙ sym e)
-
-    same_bytes : take 16 (drop i path) ≡ take (i + n - i) (drop i path)
-    same_bytes = go (leb_is 16 (length path - i))
+    same-bytes : take 16 left ≡ turn
+    same-bytes = go (leb_is 16 (length left))
       where
-        go : (16 ≤ length path - i) ⊎ (length path - i < 16) → take 16 (drop i path) ≡ take (i + n - i) (drop i path)
-        go (inl h) = let m : 16 ≡ i + n - i = omega (arith, e) in ap (λ (k : ℕ). take k (drop i path)) m
-        go (inr h) = take_all 16 (drop i path) (omega (arith, left)) ∙ sym (take_all (i + n - i) (drop i path) (omega (arith, left, e)))
+        go : (16 ≤ length left) ⊎ (length left < 16) → take 16 left ≡ turn
+        go (inl h) = ap (take 16) e ∙ take_at turn behind 16 (omega (arith, l))
+        go (inr h) = take_all 16 left (omega arith) ∙ e ∙ ap (λ (x : List ℕ). turn ++ x) (none_left behind (omega (arith, l, whole))) ∙ append-nil turn
 
-    pub turn-refused : (k : ℕ) → read_at g b (at + i) n img ≡ refused k → same_from (length path - i) g b (at + i) (drop i path) img ≡ refused k
+    here : same_from (length left) g b at left img ≡ and_then (read_at g b at (length turn) img) (turned (length left) at left)
+    here = turn_by (length left) at left some (omega arith) ∙ rw (← l)
+
+    pub turn-refused : (k : ℕ) → read_at g b at (length turn) img ≡ refused k → same_from (length left) g b at left img ≡ refused k
     turn-refused k q = here ∙ rw q
 
-    module _ (bs : List ℕ) (q : read_at g b (at + i) n img ≡ done bs) where
-      pub turn-differs : equal bs (take (i + n - i) (drop i path)) ≡ false → same_from (length path - i) g b (at + i) (drop i path) img ≡ done false
-      turn-differs d = here ∙ rw (q, same_bytes, d)
+    module _ (bs : List ℕ) (q : read_at g b at (length turn) img ≡ done bs) where
+      pub turn-differs : equal bs turn ≡ false → same_from (length left) g b at left img ≡ done false
+      turn-differs d = here ∙ rw (q, same-bytes, d)
 
-      pub turn-same : equal bs (take (i + n - i) (drop i path)) ≡ true
-          → same_from (length path - i) g b (at + i) (drop i path) img ≡ same_from (length path - (i + n)) g b (at + (i + n)) (drop (i + n) path) img
-      turn-same d = here ∙ rw (q, same_bytes, d) (go (leb_is 16 (length path - i)))
+      pub turn-same : equal bs turn ≡ true → same_from (length left) g b at left img ≡ same_from (length behind) g b (at + length turn) behind img
+      turn-same d = here ∙ rw (q, same-bytes, d) (go (leb_is 16 (length left)))
         where
-          go : (16 ≤ length path - i) ⊎ (length path - i < 16)
-              → same_from (length path - i) g b (at + i + 16) (drop 16 (drop i path)) img ≡ same_from (length path - (i + n)) g b (at + (i + n)) (drop (i + n) path) img
+          go : (16 ≤ length left) ⊎ (length left < 16) → same_from (length left) g b (at + 16) (drop 16 left) img ≡ same_from (length behind) g b (at + length turn) behind img
           go (inl h) =
-              let m : i + 16 ≡ i + n = omega (arith, e) in
-              let a : at + i + 16 ≡ at + (i + n) = omega (arith, e) in
-              let r : drop 16 (drop i path) ≡ drop (i + n) path = drop-drop 16 i path ∙ ap (λ (k : ℕ). drop k path) m in
-              ap₂ (λ (k : ℕ) (l : List ℕ). same_from (length path - i) g b k l img) a r
-              ∙ same_enough (length path - i) (length path - (i + n)) (at + (i + n)) (drop (i + n) path) (omega (arith, length-drop (i + n) path)) (omega (arith, length-drop (i + n) path))
+              let t : length turn ≡ 16 = omega (arith, l) in
+              let r : drop 16 left ≡ behind = ap (drop 16) e ∙ drop_at turn behind 16 t in
+              rw (r, t) (same_enough (length left) (length behind) (at + 16) behind (omega (arith, whole)) (omega arith))
           go (inr h) =
-              let k : length (drop i path) ≤ 16 = omega (arith, left) in
-              let l : drop 16 (drop i path) ≡ [] = drop_of_length-le (drop i path) k in
-              let m : length path ≤ i + n = omega (arith, e) in
-              let r : drop (i + n) path ≡ [] = drop_of_length-le path m in
-              ap (λ (k : List ℕ). same_from (length path - i) g b (at + i + 16) k img) l ∙ same_none (length path - i) (at + i + 16)
-              ∙ sym (ap (λ (k : List ℕ). same_from (length path - (i + n)) g b (at + (i + n)) k img) r ∙ same_none (length path - (i + n)) (at + (i + n)))
+              let n : behind ≡ [] = none_left behind (omega (arith, l, whole)) in
+              let r : drop 16 left ≡ [] = drop_of_length-le left {i = 16} (omega arith) in
+              rw (n, r) (same_none (length left) (at + 16) ∙ sym (same_none 0 (at + length turn)))
 
   -- all of it is compared
-  pub turns_end : (at : ℕ) (path : List ℕ) (i : ℕ) → length path ≤ i → same_from (length path - i) g b (at + i) (drop i path) img ≡ done true
-  turns_end at path i h = ap (λ (k : List ℕ). same_from (length path - i) g b (at + i) k img) (drop_of_length-le path h) ∙ same_none (length path - i) (at + i)
-
-  pub turns_start : (at : ℕ) (path : List ℕ) → same_from (length path) g b at path img ≡ same_from (length path - 0) g b (at + 0) (drop 0 path) img
-  turns_start at path = let a : at ≡ at + 0 = omega arith in let l : length path ≡ length path - 0 = omega arith in ap₂ (λ (k n : ℕ). same_from n g b k path img) a l
+  pub turns_end : (at : ℕ) (left : List ℕ) → length left ≡ 0 → same_from (length left) g b at left img ≡ done true
+  turns_end at left h = rw h (ap (λ (x : List ℕ). same_from 0 g b at x img) (none_left left h) ∙ same_none 0 at)
 
 -- ---- the objects of the tour
 
@@ -144,7 +136,7 @@ module _ (g : Geometry) (path : List ℕ) (hash : ℕ) (img : List ℕ) where
       go (done u) [] (done w) q = refl
       go (done u) (h ∷ hs) n q = let z : ◌≡◌ {A = ℕ} 0 1 = cc in absurd (omega arith)
 
-  module _ (v : Visitor) (h : ObjectHeader) (w : Visitor) (s : done (object h w) ≡ next_visit g Metadata v img) (o : Goes g Metadata v img (visited.Object h w)) where
+  module _ (v : Visitor) (h : ObjectHeader) (w : Visitor) (s : done (object h w) ≡ next_visit g Metadata v img) (o : Goes g Metadata v img (Ok (Some (h, w)))) where
     checked : check_of g (length img) ≡ 0
     checked = seen_check g Metadata img v (object h w) s
 

@@ -3,9 +3,12 @@ use mathlib.Core.Path.{◌≡◌, refl, sym, ap, ◌∙◌}
 use mathlib.Core.Bool.{Bool, true, false}
 use mathlib.Core.List.{List, ◌∷◌}
 use Prim.Native.Nat.{ℕ, zero, suc, ◌+◌, ◌-◌, ◌*◌, ◌≤◌, ◌<◌}
-use native.Mathlib.Nat.{suc-mul, mul-le-mul_right}
+use native.Mathlib.Nat.{suc-mul}
 use native.Mathlib.Omega.{arith}
 use lib.ListN.{length}
+use Rattle.std.specs.Prelude.{Some, None, Ok, Err}
+use Rattle.medium.specs.declared.refusal.Refusal.{Refusal}
+use Rattle.medium.specs.Refusal.{refusal_number}
 use Rattle.medium.specs.declared.geometry.Geometry.{Geometry}
 use Rattle.medium.specs.Granularity.{pick}
 use Rattle.medium.specs.Geometry.{check_of}
@@ -16,12 +19,10 @@ use Rattle.objects.specs.declared.iterator.ObjectIterator.{ObjectIterator}
 use Rattle.objects.specs.Listing.{behind, Met, object, free_place, block_end, next_of, Listing, list_by, list_from}
 use Rattle.blocks.specs.declared.header.BlockType.{BlockType}
 use Rattle.storage.specs.declared.visit.Visitor.{Visitor}
-use Rattle.storage.specs.declared.visit.Visited.{Visited}
-use Rattle.storage.specs.declared.visit.Visited.TheVariants as visited
 use Rattle.storage.specs.declared.visit.Step.{Step}
 use Rattle.storage.specs.declared.visit.Step.TheVariants as step
-use Rattle.storage.specs.Order.{Tour, no_tour, broken_tour, first_then, tour_by, joined, is_finished, listed_tour, open_tour, open_visit, start_visit, open_of, tour_if, is_of, blocks_tour, tour_from, visit_answer, first_seen, next_visit, behind_visit, tour_of, Goes, Seen, step_of}
-use Rattle.medium.proofs.Checks.{fine_of_check}
+use Rattle.storage.specs.Order.{Tour, no_tour, broken_tour, first_then, tour_by, joined, is_finished, listed_tour, open_tour, open_visit, start_visit, open_of, tour_if, is_of, blocks_tour, tour_from, Visited, visit_answer, first_seen, next_visit, behind_visit, tour_of, Goes, Seen, step_of}
+use Rattle.medium.proofs.Refusals.{not_done}
 use Rattle.objects.proofs.Answers.{gate_on, gate_stop}
 use Rattle.objects.proofs.Listing.{next_found, next_moves, header_some}
 use Rattle.blocks.proofs.Scans.{list_by_lem}
@@ -37,10 +38,10 @@ join_first h a b = go a.end
     go (refused n) = refl
 
 -- the tour behind a step
-abbrev pub step_tour : Geometry → BlockType → List ℕ → Step → Tour
-step_tour g t img (step.Object h v) = first_then h (tour_from g t v img)
-step_tour g t img (step.On v) = tour_from g t v img
-step_tour g t img (step.Refused n) = broken_tour n
+abbrev pub step_tour : Geometry → BlockType → List ℕ → Answer Step → Tour
+step_tour g t img (done (step.Object h v)) = first_then h (tour_from g t v img)
+step_tour g t img (done (step.On v)) = tour_from g t v img
+step_tour g t img (refused n) = broken_tour n
 
 abbrev pub shut : Bool → ℕ
 shut true = 0
@@ -49,12 +50,6 @@ shut false = 1
 -- how far there is to go: by blocks, then by bytes, then whether the block is still to be opened
 abbrev pub togo : Geometry → Visitor → ℕ
 togo g v = (g.count - v.place.location.block) * (g.size + 2) + ((g.size - v.place.location.offset) + shut v.opened)
-
--- a block number is far from the largest number
-pub block_small : (g : Geometry) (room r b : ℕ) → r ≡ check_of g room → r ≡ 0 → b < g.count → b < 4294967295
-block_small g room r b e z h =
-    let f = fine_of_check g room r e z in
-    omega (arith, mul-le-mul_right g.count f.sound.least, f.sound.bound)
 
 module _ (g : Geometry) (t : BlockType) (img : List ℕ) where
   abbrev next_block : Visitor → Visitor
@@ -119,7 +114,7 @@ module _ (g : Geometry) (t : BlockType) (img : List ℕ) where
     tour-step o = open-on v h o ∙ ap (λ (x : Tour). joined x (tour_from g t (next_block v) img)) (open_by_lem v.place c (next_of g v.place img) refl) ∙ go (next_of g v.place img) refl
       where
         met : (b : Bool) (o : ObjectHeader) (j : ObjectIterator) → j.location.block ≡ v.place.location.block
-            → joined (pick b (first_then o (open_tour g j img)) (open_tour g j img)) (tour_from g t (next_block v) img) ≡ step_tour g t img (pick b (step.Object o (open_visit j)) (step.On (open_visit j)))
+            → joined (pick b (first_then o (open_tour g j img)) (open_tour g j img)) (tour_from g t (next_block v) img) ≡ step_tour g t img (done (pick b (step.Object o (open_visit j)) (step.On (open_visit j))))
         met true o j e = join_first o (open_tour g j img) (tour_from g t (next_block v) img) ∙ ap (first_then o) (rest_of j e)
         met false o j e = rest_of j e
 
@@ -135,11 +130,11 @@ module _ (g : Geometry) (t : BlockType) (img : List ℕ) where
         let n : g.count - v.place.location.block ≡ suc (g.count - (v.place.location.block + 1)) = omega arith in
         omega (arith, ap (λ (x : ℕ). x * (g.size + 2)) n, suc-mul (g.count - (v.place.location.block + 1)) (g.size + 2))
 
-    pub step-nearer : (w : Visitor) → step_of g v (next_of g v.place img) ≡ step.On w → togo g w < togo g v
+    pub step-nearer : (w : Visitor) → step_of g v (next_of g v.place img) ≡ done (step.On w) → togo g w < togo g v
     unfolding step_of
     step-nearer w e = go (next_of g v.place img) refl e
       where
-        met : (b : Bool) (o : ObjectHeader) (j : ObjectIterator) → next_of g v.place img ≡ done (object o j) → pick b (step.Object o (open_visit j)) (step.On (open_visit j)) ≡ step.On w → togo g w < togo g v
+        met : (b : Bool) (o : ObjectHeader) (j : ObjectIterator) → next_of g v.place img ≡ done (object o j) → ◌≡◌ {A = Answer Step} (done (pick b (step.Object o (open_visit j)) (step.On (open_visit j)))) (done (step.On w)) → togo g w < togo g v
         met true o j q r = let z : ◌≡◌ {A = ℕ} 0 1 = cc in absurd (omega arith)
         met false o j q r =
             let m = next_moves g v.place img o j q in
@@ -147,18 +142,18 @@ module _ (g : Geometry) (t : BlockType) (img : List ℕ) where
             let b : (g.count - j.location.block) * (g.size + 2) ≡ (g.count - v.place.location.block) * (g.size + 2) = ap (λ (x : ℕ). (g.count - x) * (g.size + 2)) m.block in
             rw (← s) (omega (arith, b, m.forward, m.within, header_some g.granularity g.s))
 
-        go : (m : Answer Met) → next_of g v.place img ≡ m → step_of g v m ≡ step.On w → togo g w < togo g v
+        go : (m : Answer Met) → next_of g v.place img ≡ m → step_of g v m ≡ done (step.On w) → togo g w < togo g v
         go (done (object o j)) q r = met (is_finished o) o j q r
         go (done free_place) q r = let s : next_block v ≡ w = cc in rw (← s) next-nearer
         go (done block_end) q r = let s : next_block v ≡ w = cc in rw (← s) next-nearer
         go (refused n) q r = let z : ◌≡◌ {A = ℕ} 0 1 = cc in absurd (omega arith)
 
     -- and the visitor of an object stands behind it
-    pub step-behind : (o : ObjectHeader) (w : Visitor) → step_of g v (next_of g v.place img) ≡ step.Object o w → w ≡ behind_visit g o
+    pub step-behind : (o : ObjectHeader) (w : Visitor) → step_of g v (next_of g v.place img) ≡ done (step.Object o w) → w ≡ behind_visit g o
     unfolding step_of
     step-behind o w e = go (next_of g v.place img) refl e
       where
-        met : (b : Bool) (p : ObjectHeader) (j : ObjectIterator) → next_of g v.place img ≡ done (object p j) → pick b (step.Object p (open_visit j)) (step.On (open_visit j)) ≡ step.Object o w → w ≡ behind_visit g o
+        met : (b : Bool) (p : ObjectHeader) (j : ObjectIterator) → next_of g v.place img ≡ done (object p j) → ◌≡◌ {A = Answer Step} (done (pick b (step.Object p (open_visit j)) (step.On (open_visit j)))) (done (step.Object o w)) → w ≡ behind_visit g o
         met true p j q r =
             let a : p ≡ o = cc in
             let b : open_visit j ≡ w = cc in
@@ -166,7 +161,7 @@ module _ (g : Geometry) (t : BlockType) (img : List ℕ) where
             sym b ∙ ap open_visit (f.then ∙ ap (λ (l : ObjectLocation). behind g (record { location = l }) p) (sym (found_at g v.place.location img p f.object))) ∙ ap (behind_visit g) a
         met false p j q r = let z : ◌≡◌ {A = ℕ} 0 1 = cc in absurd (omega arith)
 
-        go : (m : Answer Met) → next_of g v.place img ≡ m → step_of g v m ≡ step.Object o w → w ≡ behind_visit g o
+        go : (m : Answer Met) → next_of g v.place img ≡ m → step_of g v m ≡ done (step.Object o w) → w ≡ behind_visit g o
         go (done (object p j)) q r = met (is_finished p) p j q r
         go (done free_place) q r = let z : ◌≡◌ {A = ℕ} 0 1 = cc in absurd (omega arith)
         go (done block_end) q r = let z : ◌≡◌ {A = ℕ} 0 1 = cc in absurd (omega arith)
@@ -175,22 +170,22 @@ module _ (g : Geometry) (t : BlockType) (img : List ℕ) where
   -- ---- what is answered: the first of the tour
 
   abbrev Behind : Visited → Type 0
-  Behind (visited.Object h w) = w ≡ behind_visit g h
-  Behind visited.End = Unit {0}
-  Behind (visited.Refused n) = Unit {0}
+  Behind (Ok (Some x)) = x.1 ≡ behind_visit g x.0
+  Behind (Ok None) = Unit {0}
+  Behind (Err e) = Unit {0}
 
   pub visit_answer_lem : (v : Visitor) (r : Visited) → check_of g (length img) ≡ 0 → tour_from g t v img ≡ tour_of g t img r → Behind r → (visit_answer r ≡ next_visit g t v img) × Goes g t v img r
   unfolding next_visit Goes
   visit_answer_lem v r c e b = (sym (gate_on (λ _. first_seen g (tour_from g t v img).objects (tour_from g t v img).end) (check_of g (length img)) (check_of g (length img)) refl c ∙ rw e (go r b)), λ _. e)
     where
       go : (r : Visited) → Behind r → first_seen g (tour_of g t img r).objects (tour_of g t img r).end ≡ visit_answer r
-      go (visited.Object h w) q = rw q
-      go visited.End q = refl
-      go (visited.Refused n) q = refl
+      go (Ok (Some x)) q = rw q
+      go (Ok None) q = refl
+      go (Err e) q = refl
 
-  pub visit_stop : (v : Visitor) (r : ℕ) → r ≡ check_of g (length img) → (r ≡ 0 → ⊥) → (visit_answer (visited.Refused r) ≡ next_visit g t v img) × Goes g t v img (visited.Refused r)
+  pub visit_stop : (v : Visitor) (x : Refusal) → refusal_number x ≡ check_of g (length img) → (visit_answer (Err x) ≡ next_visit g t v img) × Goes g t v img (Err x)
   unfolding next_visit Goes
-  visit_stop v r e n = (sym (gate_stop (λ _. first_seen g (tour_from g t v img).objects (tour_from g t v img).end) r (check_of g (length img)) e n), λ z. absurd (n (e ∙ z)))
+  visit_stop v x e = (sym (gate_stop (λ _. first_seen g (tour_from g t v img).objects (tour_from g t v img).end) (refusal_number x) (check_of g (length img)) e (not_done x)), λ z. absurd (not_done x (e ∙ z)))
 
   -- an answer tells that geometry and room are right
   pub seen_check : (v : Visitor) (x : Seen) → done x ≡ next_visit g t v img → check_of g (length img) ≡ 0

@@ -7,14 +7,13 @@ use native.Mathlib.Omega.{arith}
 use lib.ListN.{length, take, drop, length-append, length-drop, take-append-drop}
 use lib.Seq.{length-take-le, drop-drop, take_at, drop_at}
 use lib.Dec.{leb, eqb}
+use Rattle.std.specs.Prelude.{Some, Ok}
 use borrow.Author.Tests.{eqb-true, le-leb, lt-leb}
 use Rattle.medium.specs.declared.geometry.Geometry.{Geometry}
-use Rattle.medium.specs.declared.fuse.Answered.{Answered}
-use Rattle.medium.specs.declared.fuse.Answered.TheVariants as heard
 use Rattle.medium.specs.Granularity.{pick, size_at}
 use Rattle.medium.specs.Geometry.{check_of, address}
-use Rattle.medium.specs.Operation.{Answer, done, refused, and_then, answered}
-use Rattle.medium.specs.Medium.{part, readable, read_at}
+use Rattle.medium.specs.Operation.{Answer, done, refused, and_then}
+use Rattle.medium.specs.Medium.{part, readable, read_at, lent}
 use Rattle.objects.specs.declared.location.ObjectLocation.{ObjectLocation}
 use Rattle.objects.specs.declared.header.ObjectHeader.{ObjectHeader}
 use Rattle.objects.specs.declared.reader.ObjectReader.{ObjectReader}
@@ -27,10 +26,8 @@ use Rattle.objects.specs.Payload.{payload_at}
 use Rattle.objects.specs.Reader.{reader_at}
 use Rattle.objects.specs.Metadata.{Listed, location, no_more, hash_at, number_at, read_metadata, metadata_of, metadata_at, location_at, listed_at, list_end, listable, past_location, next_listed, next_location}
 use Rattle.storage.specs.declared.file.Piece.{Piece}
-use Rattle.storage.specs.declared.file.NextPiece.{NextPiece}
-use Rattle.storage.specs.declared.file.NextPiece.TheVariants as next
 use Rattle.storage.specs.File.{Places, after_place, places_by, places_from, places_of, some_of, unless_full, gather, gather_at, put_into, count_of, sizes}
-use Rattle.storage.specs.Pieces.{piece_bytes, piece_then, FitsAt, Fits, IsDone}
+use Rattle.storage.specs.Pieces.{piece_bytes, bytes_then, FitsAt, Fits, IsDone}
 use Rattle.medium.proofs.Ranges.{Reached, reached, readable_within, read_part}
 use Rattle.medium.proofs.Checks.{Fine, fine_of_check}
 use Rattle.objects.proofs.Reading.{Passed, passed, read_length, fine_of_number}
@@ -86,13 +83,8 @@ pub step_small : (g : Geometry) (m k : MetadataObjectHeader) (img : List ℕ) �
 step_small g m k img s = (fine_of_check g (length img) (check_of g (length img)) refl s.checked).sound.small
 
 -- and what an object gives at the first of its locations leaves the list behind it
-pub fits_on : (g : Geometry) (img : List ℕ) (m rest : MetadataObjectHeader) (n : ℕ) (r : NextPiece) (l : ObjectLocation) → next_location g m img ≡ done (location l rest) → FitsAt g img rest n r → Fits g img m n r
-fits_on g img m rest n (next.Some p k) l e f =
-    let s : Step g m rest img = step_of g m img l rest e in
-    let c : k.cursor ≡ rest.cursor = ap (λ (x : MetadataObjectHeader). x.cursor) f.2 in
-    (f.0, f.1, omega (arith, s.forward), s.small)
-fits_on g img m rest n next.End l e f = tt
-fits_on g img m rest n (next.Refused k) l e f = tt
+pub fits_on : (g : Geometry) (img : List ℕ) (m rest : MetadataObjectHeader) (n : ℕ) (p : Piece) (l : ObjectLocation) → next_location g m img ≡ done (location l rest) → FitsAt g img n (Ok p) → Fits g img m n (Ok (Some (p, rest)))
+fits_on g img m rest n p l e f = let s : Step g m rest img = step_of g m img l rest e in (f.0, f.1, omega (arith, s.forward), s.small)
 
 -- more fuel than is needed changes nothing
 places_enough : (m n : ℕ) (g : Geometry) (x : MetadataObjectHeader) (img : List ℕ) → 1 ≤ m → g.size + 2 ≤ x.cursor + 2 * m → 1 ≤ n → g.size + 2 ≤ x.cursor + 2 * n
@@ -257,7 +249,7 @@ module _ (g : Geometry) (img : List ℕ) where
 
   -- ---- a test pass, and a pass that copies
 
-  module _ (k n : ℕ) (p : Piece) (m : MetadataObjectHeader) (a : Answer (List ℕ)) (e : piece_then g img (n - k) (next.Some p m) ≡ a)
+  module _ (k n : ℕ) (p : Piece) (m : MetadataObjectHeader) (a : Answer (List ℕ)) (e : bytes_then g img (n - k) (places_of g m img) p ≡ a)
       (f : read_at g p.block p.at p.len img ≡ done (piece_bytes g p img)) where
     bytes-long : length (piece_bytes g p img) ≡ p.len
     bytes-long = read_length g p.block p.at p.len img (piece_bytes g p img) f
@@ -281,39 +273,35 @@ module _ (g : Geometry) (img : List ℕ) where
         ∙ fill_more k (k + p.len) buffer (piece_bytes g p img) (gather_at g (places_of g m img) p.skip (n - k - p.len) img) (omega arith) h (rest_done (piece_bytes g p img) (gather_at g (places_of g m img) p.skip (n - k - p.len) img) (subst IsDone (sym e) d))
         ∙ ap (λ (x : ℕ). filling (k + p.len) (take k buffer ++ (piece_bytes g p img ++ drop (k + p.len) buffer)) (gather_at g (places_of g m img) p.skip x img)) fewer
 
+  -- there is as much room in the middle of the buffer as bytes are lent
+  pub room_for : (k : ℕ) (p : Piece) (buffer : List ℕ) → read_at g p.block p.at p.len img ≡ done (piece_bytes g p img) → k + p.len ≤ length buffer
+      → length (take (k + p.len - k) (drop k buffer)) ≡ length (lent (read_at g p.block p.at p.len img))
+  room_for k p buffer f h =
+      let z : k + p.len - k ≡ p.len = omega arith in
+      let d : p.len ≤ length (drop k buffer) = omega (arith, length-drop k buffer) in
+      ap (λ (x : ℕ). length (take x (drop k buffer))) z ∙ length-take-le p.len (drop k buffer) d
+      ∙ sym (ap (λ (x : Answer (List ℕ)). length (lent x)) f ∙ read_length g p.block p.at p.len img (piece_bytes g p img) f)
+
   -- what a read left in the middle of the buffer, and what the next turn finds
-  module _ (k : ℕ) (p : Piece) (m : MetadataObjectHeader) (a : Answer (List ℕ)) (buffer : List ℕ) (e : piece_then g img (length buffer - k) (next.Some p m) ≡ a)
+  module _ (k : ℕ) (p : Piece) (m : MetadataObjectHeader) (a : Answer (List ℕ)) (buffer : List ℕ) (e : bytes_then g img (length buffer - k) (places_of g m img) p ≡ a)
       (f : read_at g p.block p.at p.len img ≡ done (piece_bytes g p img)) (h : k + p.len ≤ length buffer) where
-    middle : length (take (k + p.len - k) (drop k buffer)) ≡ p.len
-    middle = let z : k + p.len - k ≡ p.len = omega arith in let d : p.len ≤ length (drop k buffer) = omega (arith, length-drop k buffer) in ap (λ (x : ℕ). length (take x (drop k buffer))) z ∙ length-take-le p.len (drop k buffer) d
-
-    read_is : (r : Answered) (ys : List ℕ) → answered r ys ≡ read_at g p.block p.at (length (take (k + p.len - k) (drop k buffer))) img → ys ≡ piece_bytes g p img
-    read_is r ys q = go r (q ∙ ap (λ (x : ℕ). read_at g p.block p.at x img) middle ∙ f)
-      where
-        go : (r : Answered) → answered r ys ≡ done (piece_bytes g p img) → ys ≡ piece_bytes g p img
-        go heard.Done z = cc
-        go (heard.Refused n) z = let y : ◌≡◌ {A = ℕ} 0 1 = cc in absurd (omega arith)
-
-    pub copied : (r : Answered) (ys : List ℕ) → answered r ys ≡ read_at g p.block p.at (length (take (k + p.len - k) (drop k buffer))) img → IsDone a
+    pub copied : (ys : List ℕ) → ys ≡ lent (read_at g p.block p.at p.len img) → IsDone a
         → (k + p.len ≤ length (take k buffer ++ (ys ++ drop (k + p.len - k) (drop k buffer))))
         × (length (take k buffer ++ (ys ++ drop (k + p.len - k) (drop k buffer))) ≡ length buffer)
         × IsDone (gather_at g (places_of g m img) p.skip (length (take k buffer ++ (ys ++ drop (k + p.len - k) (drop k buffer))) - (k + p.len)) img)
         × (filling k buffer a
         ≡ filling (k + p.len) (take k buffer ++ (ys ++ drop (k + p.len - k) (drop k buffer))) (gather_at g (places_of g m img) p.skip (length (take k buffer ++ (ys ++ drop (k + p.len - k) (drop k buffer))) - (k + p.len)) img))
-    copied r ys q d =
+    copied ys q d =
         let z : k + (k + p.len - k) ≡ k + p.len = omega arith in
         let bs : length (piece_bytes g p img) ≡ p.len = bytes-long k (length buffer) p m a e f in
         let w : take k buffer ++ (ys ++ drop (k + p.len - k) (drop k buffer)) ≡ take k buffer ++ (piece_bytes g p img ++ drop (k + p.len) buffer) =
-        ap₂ (λ (x y : List ℕ). take k buffer ++ (x ++ y)) (read_is r ys q) (drop-drop (k + p.len - k) k buffer ∙ ap (λ (x : ℕ). drop x buffer) z) in
+        ap₂ (λ (x y : List ℕ). take k buffer ++ (x ++ y)) (q ∙ ap lent f) (drop-drop (k + p.len - k) k buffer ∙ ap (λ (x : ℕ). drop x buffer) z) in
         let l : length (take k buffer ++ (piece_bytes g p img ++ drop (k + p.len) buffer)) ≡ length buffer =
         length-append (take k buffer) (piece_bytes g p img ++ drop (k + p.len) buffer) ∙ ap₂ (λ (x y : ℕ). x + y) (length-take-le k buffer (omega arith)) (length-append (piece_bytes g p img) (drop (k + p.len) buffer) ∙ ap₂ (λ (x y : ℕ). x + y) bs (length-drop (k + p.len) buffer)) ∙ whole in
         rw w (omega (arith, l), l, rw l (copy_done k (length buffer) p m a e f d), rw l (copy_more k (length buffer) p m a e f buffer h d))
       where
         whole : k + (p.len + (length buffer - (k + p.len))) ≡ length buffer
         whole = omega arith
-
-  pub fill_start : (buffer : List ℕ) (l : Places) (p : ℕ) → put_into (gather_at g l p (length buffer) img) buffer ≡ filling 0 buffer (gather_at g l p (length buffer - 0) img)
-  fill_start buffer l p = let z : length buffer ≡ length buffer - 0 = omega arith in ap (λ (x : ℕ). put_into (gather_at g l p x img) buffer) z
 
   -- nothing more comes
   pub fill_none : (k : ℕ) (buffer : List ℕ) (a : Answer (List ℕ)) → a ≡ done [] → filling k buffer a ≡ buffer
@@ -325,13 +313,6 @@ module _ (g : Geometry) (img : List ℕ) where
   pub measure_full : (k n : ℕ) (l : Places) (p : ℕ) → n ≤ k → counting k (gather_at g l p (n - k) img) ≡ done k
   measure_full k n l p h = let z : n - k ≡ 0 = omega arith in let y : k + 0 ≡ k = omega arith in rw (z, gather_full l p, y)
 
-  pub measure_start : (n : ℕ) (l : Places) (p : ℕ) → count_of (gather_at g l p n img) ≡ counting 0 (gather_at g l p (n - 0) img)
-  measure_start n l p = let z : n - 0 ≡ n = omega arith in rw z (go (gather_at g l p n img))
-    where
-      go : (a : Answer (List ℕ)) → count_of a ≡ counting 0 a
-      go (done bs) = let y : length bs ≡ 0 + length bs = omega arith in ap done y
-      go (refused m) = refl
-
   -- ---- the length of a file
 
   abbrev pub size_from : MetadataObjectHeader → Answer ℕ
@@ -339,13 +320,6 @@ module _ (g : Geometry) (img : List ℕ) where
 
   abbrev pub adding : ℕ → Answer ℕ → Answer ℕ
   adding k a = and_then a (λ n. done (k + n))
-
-  pub size_start : (m : MetadataObjectHeader) → size_from m ≡ adding 0 (size_from m)
-  size_start m = go (size_from m)
-    where
-      go : (a : Answer ℕ) → a ≡ adding 0 a
-      go (done n) = let z : n ≡ 0 + n = omega arith in ap done z
-      go (refused n) = refl
 
   module _ (m : MetadataObjectHeader) (big : 2 ≤ g.size) where
     pub size-refused : (k : ℕ) → refused k ≡ next_location g m img → size_from m ≡ refused k

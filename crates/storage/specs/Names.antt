@@ -1,9 +1,11 @@
 -- "A listing of all file names, one a call": the name of the next object that a lookup would look at. "7 for a name longer than its buffer";
 -- then the place stays, as after any refusal. The end is no refusal.
-use Rattle.std.specs.Prelude.{ℕ, false, List, [], ◌++◌, length, drop, leb, eqb}
+use Rattle.std.specs.Prelude.{ℕ, false, List, [], ◌++◌, Option, Some, None, Result, Ok, Err, length, drop, leb, eqb}
 use Rattle.medium.specs.declared.geometry.Geometry.{Geometry}
 use Rattle.medium.specs.Granularity.{pick}
 use Rattle.medium.specs.Operation.{Answer, done, refused, and_then}
+use Rattle.medium.specs.declared.refusal.Refusal.{Refusal}
+use Rattle.medium.specs.Refusal.{refusal_number}
 use Rattle.objects.specs.declared.location.ObjectLocation.{ObjectLocation}
 use Rattle.objects.specs.declared.header.ObjectHeader.{ObjectHeader}
 use Rattle.objects.specs.Header.{payload_of}
@@ -14,7 +16,6 @@ use Rattle.objects.specs.Listing.{start_of}
 use Rattle.blocks.specs.declared.header.BlockType.TheVariants.{Metadata}
 use Rattle.storage.specs.declared.names.Names.{Names}
 use Rattle.storage.specs.declared.names.NextName.{NextName}
-use Rattle.storage.specs.declared.names.NextName.TheVariants as next
 use Rattle.storage.specs.Order.{Seen, object, store_end, next_visit}
 
 -- the bytes of a name's object; an empty one is not read, as a lookup does not
@@ -51,10 +52,10 @@ pub data NameOut : Type 0 where
   named : ℕ → ObjectLocation → Names → NameOut
   none : NameOut
 
-abbrev pub name_answer : NextName → Answer NameOut
-name_answer (next.Name n at i) = done (named n at i)
-name_answer next.End = done none
-name_answer (next.Refused n) = refused n
+abbrev pub name_answer : Result (Option NextName) Refusal → Answer NameOut
+name_answer (Ok (Some n)) = done (named n.length n.location n.names)
+name_answer (Ok None) = done none
+name_answer (Err e) = refused (refusal_number e)
 
 abbrev pub length_out : Named → Answer NameOut
 length_out (name bs at i) = done (named (length bs) at i)

@@ -1,10 +1,12 @@
 -- "in block and offset order over Metadata blocks": which objects are looked at, in which order, and what ends it. Of the blocks of one type,
 -- by their headers, the Finalized objects that a listing shows; other blocks are not looked at. A listing that is refused ends the order there.
-use Rattle.std.specs.Prelude.{ℕ, zero, suc, ◌+◌, ◌-◌, ◌≡◌, Bool, true, false, List, [], ◌∷◌, ◌++◌, length, eqb}
+use Rattle.std.specs.Prelude.{ℕ, zero, suc, ◌+◌, ◌-◌, ◌≡◌, Bool, true, false, List, [], ◌∷◌, ◌++◌, Option, Some, None, Result, Ok, Err, length, eqb}
 use Rattle.medium.specs.declared.geometry.Geometry.{Geometry}
 use Rattle.medium.specs.Granularity.{pick}
 use Rattle.medium.specs.Geometry.{check_of}
 use Rattle.medium.specs.Operation.{Answer, done, refused, and_then, or_refuse}
+use Rattle.medium.specs.declared.refusal.Refusal.{Refusal}
+use Rattle.medium.specs.Refusal.{refusal_number}
 use Rattle.objects.specs.declared.header.ObjectHeader.{ObjectHeader}
 use Rattle.objects.specs.declared.iterator.ObjectIterator.{ObjectIterator}
 use Rattle.objects.specs.Types.{rank_of}
@@ -14,18 +16,9 @@ use Rattle.blocks.specs.declared.header.BlockType.{BlockType}
 use Rattle.blocks.specs.declared.header.BlockHeaderKind.TheVariants.{Known}
 use Rattle.blocks.specs.BlockHeader.{kind_number, block_header_at}
 use Rattle.blocks.specs.Scan.{unless_broken}
-use Rattle.storage.specs.declared.visit.Judged.{Judged}
-use Rattle.storage.specs.declared.visit.Judged.TheVariants as judged
 use Rattle.storage.specs.declared.visit.Visitor.{Visitor}
-use Rattle.storage.specs.declared.visit.Visited.{Visited}
-use Rattle.storage.specs.declared.visit.Visited.TheVariants as visited
 use Rattle.storage.specs.declared.visit.Step.{Step}
 use Rattle.storage.specs.declared.visit.Step.TheVariants as step
-
-abbrev pub judged_answer : Judged → Answer Bool
-judged_answer judged.Yes = done true
-judged_answer judged.No = done false
-judged_answer (judged.Refused n) = refused n
 
 -- ---- a tour: objects in the order in which they are looked at, and what comes behind the last: nothing, or a refusal
 
@@ -106,10 +99,14 @@ pub data Seen : Type 0 where
   object : ObjectHeader → Visitor → Seen
   store_end : Seen
 
+-- what the code's answer stands for
+abbrev pub Visited : Type 0
+Visited = Result (Option (ObjectHeader × Visitor)) Refusal
+
 abbrev pub visit_answer : Visited → Answer Seen
-visit_answer (visited.Object h v) = done (object h v)
-visit_answer visited.End = done store_end
-visit_answer (visited.Refused n) = refused n
+visit_answer (Ok (Some x)) = done (object x.0 x.1)
+visit_answer (Ok None) = done store_end
+visit_answer (Err e) = refused (refusal_number e)
 
 -- the visitor behind an object
 abbrev pub behind_visit : Geometry → ObjectHeader → Visitor
@@ -124,17 +121,17 @@ next_visit g t v img = and_then (or_refuse (check_of g (length img))) (λ _. fir
 
 -- what comes behind it is the rest of the tour
 abbrev pub tour_of : Geometry → BlockType → List ℕ → Visited → Tour
-tour_of g t img (visited.Object h v) = first_then h (tour_from g t v img)
-tour_of g t img visited.End = no_tour
-tour_of g t img (visited.Refused n) = broken_tour n
+tour_of g t img (Ok (Some x)) = first_then x.0 (tour_from g t x.1 img)
+tour_of g t img (Ok None) = no_tour
+tour_of g t img (Err e) = broken_tour (refusal_number e)
 
 unfoldable pub Goes : Geometry → BlockType → Visitor → List ℕ → Visited → Type 0
 Goes g t v img r = check_of g (length img) ≡ 0 → tour_from g t v img ≡ tour_of g t img r
 
 -- ---- how the code goes about it: one step in an open block
 
-unfoldable pub step_of : Geometry → Visitor → Answer Met → Step
-step_of g v (done (met.object h j)) = pick (is_finished h) (step.Object h (open_visit j)) (step.On (open_visit j))
-step_of g v (done met.free_place) = step.On (start_visit g (v.place.location.block + 1))
-step_of g v (done met.block_end) = step.On (start_visit g (v.place.location.block + 1))
-step_of g v (refused n) = step.Refused n
+unfoldable pub step_of : Geometry → Visitor → Answer Met → Answer Step
+step_of g v (done (met.object h j)) = done (pick (is_finished h) (step.Object h (open_visit j)) (step.On (open_visit j)))
+step_of g v (done met.free_place) = done (step.On (start_visit g (v.place.location.block + 1)))
+step_of g v (done met.block_end) = done (step.On (start_visit g (v.place.location.block + 1)))
+step_of g v (refused n) = refused n

@@ -10,11 +10,3 @@ pub mod file;
 pub mod lookup;
 pub mod names;
 pub mod visit;
-
-ghost use Rattle.std.specs.Prelude.{◌≡◌, min};
-
-fn least(a: usize, b: usize) -> usize
-    ensures { result ≡ min a b }
-{
-    if a < b { a } else { b }
-}

@@ -7,8 +7,10 @@ use native.Mathlib.Omega.{arith}
 use lib.ListN.{length}
 use Rattle.medium.specs.declared.geometry.Geometry.{Geometry}
 use Rattle.medium.specs.declared.fuse.Fuse.{Fuse}
-use Rattle.medium.specs.declared.fuse.Stored.{Stored}
-use Rattle.medium.specs.declared.fuse.Stored.TheVariants as stored
+use Rattle.std.specs.Prelude.{Ok, Err}
+use Rattle.medium.specs.declared.fuse.Stopped.{Stopped}
+use Rattle.medium.specs.Refusal.{refusal_number}
+use Rattle.medium.specs.Fuse.{Stored}
 use Rattle.medium.specs.Granularity.{pick}
 use Rattle.medium.specs.Geometry.{check_of}
 use Rattle.medium.specs.Operation.{done, refused, run, ended_by, EndIn}
@@ -134,10 +136,10 @@ module _ (g : Geometry) (f₀ : Fuse) (img₀ : List ℕ) (ts : ℕ) where
         its : whole ≡ run fuse (deleting g 1 n (h ∷ rest)) (both img (ts ∷ n ∷ []))
         its = here ∙ ap (λ (b : Bool). run fuse (deleting g 1 n (pick b rest (h ∷ rest))) (both img (ts ∷ n ∷ []))) z
 
-        pub unreferred-stop : {k : ℕ} {left : Fuse} → x ≡ stored.Refused k left → whole ≡ record { answer = refused k; fuse = left; state = both after (ts ∷ n ∷ []) }
+        pub unreferred-stop : {s : Stopped} → x ≡ Err s → whole ≡ record { answer = refused (refusal_number s.refusal); fuse = s.fuse; state = both after (ts ∷ n ∷ []) }
         unreferred-stop d = its ∙ delete-stop g 1 n h rest fuse img after (ts ∷ n ∷ []) x y e d
 
-        module _ {left : Fuse} (d : x ≡ stored.Done left) (behind : w ≡ behind_visit g h) where
+        module _ {left : Fuse} (d : x ≡ Ok left) (behind : w ≡ behind_visit g h) where
           there : Listed g Data h img
           there = listed g Data v img a.at h w then
 

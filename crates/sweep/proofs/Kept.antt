@@ -23,7 +23,8 @@ use Rattle.storage.proofs.Heads.{Before, Sorted, sorted}
 use Rattle.storage.proofs.Finding.{all_of}
 use Rattle.shown.proofs.Agreeing.{Agree, agree_less, read_agree}
 use Rattle.shown.proofs.Walk.{span_least}
-use Rattle.sweep.specs.Twins.{type_in, is_twin}
+use Rattle.objects.specs.Types.{type_number as type_of_state}
+use Rattle.sweep.specs.Twins.{is_twin}
 use Rattle.sweep.proofs.Lists.{all_map}
 use Rattle.sweep.proofs.Marks.{Listed, Marked}
 use Rattle.sweep.proofs.Relisted.{agree_aside, agree_else}
@@ -106,4 +107,4 @@ module _ (g : Geometry) (img other : List ℕ) (fine : check_of g (length img) �
 
   pub twin_kept : (a b : ObjectHeader) → Kept g img other a → Kept g img other b → is_twin g other a b ≡ is_twin g img a b
   unfolding is_twin same_payload
-  twin_kept a b x y = ap₂ (λ (p q : Answer (List ℕ)). eqb (type_in a.state) (type_in b.state) && same_bytes p q) (payload_kept a x) (payload_kept b y)
+  twin_kept a b x y = ap₂ (λ (p q : Answer (List ℕ)). eqb (type_of_state a.state) (type_of_state b.state) && same_bytes p q) (payload_kept a x) (payload_kept b y)

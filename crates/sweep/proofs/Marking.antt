@@ -8,7 +8,8 @@ use lib.ListN.{length, take}
 use Rattle.medium.specs.declared.geometry.Geometry.{Geometry}
 use Rattle.medium.specs.declared.fuse.Fuse.{Fuse}
 use Rattle.medium.specs.declared.fuse.Fuse.TheVariants.{Absent, Units}
-use Rattle.medium.specs.declared.fuse.Stored.TheVariants as stored
+use Rattle.std.specs.Prelude.{Ok, Err}
+use Rattle.medium.specs.declared.refusal.Refusal.TheVariants.{PowerLost}
 use Rattle.medium.specs.Units.{FlashUnit}
 use Rattle.medium.specs.Operation.{flash, apply, cost, done, refused, Run, Op, EndIn, cut, run}
 use Rattle.medium.specs.Beside.{Both, both}
@@ -90,7 +91,7 @@ deleting_run g which (h ∷ hs) f n img t a = by-fuse f (λ left. deleting_run g
         → AllPass left hs g (apply (mark_units g h) img) (rest left) ⊎ SomePass left hs g (apply (mark_units g h) img) (rest left) → Goal f
     on f left p q r =
         subst (λ (e : EndIn Both (Unit {0})). AllPass f (h ∷ hs) g img e ⊎ SomePass f (h ∷ hs) g img e)
-        (sym (delete-on g which n h hs f img (apply (mark_units g h) img) t (stored.Done left) a.0.gone (sym p) refl))
+        (sym (delete-on g which n h hs f img (apply (mark_units g h) img) t (Ok left) a.0.gone (sym p) refl))
         (one_passes g h hs img f left q (rest left) r)
 
     by-fuse : (f : Fuse) → ((left : Fuse) → AllPass left hs g (apply (mark_units g h) img) (rest left) ⊎ SomePass left hs g (apply (mark_units g h) img) (rest left)) → Goal f
@@ -98,6 +99,6 @@ deleting_run g which (h ∷ hs) f n img t a = by-fuse f (λ left. deleting_run g
     by-fuse (Units zero) more =
         inr
         (subst (SomePass (Units 0) (h ∷ hs) g img)
-        (sym (delete-stop g which n h hs (Units 0) img img t (stored.Refused 8 (Units 0)) a.0.gone (sym (none_left (update_state g h state.Deleted) (mark_units g h) a.0.gone img (a.0.stores img refl) a.0.one)) refl))
+        (sym (delete-stop g which n h hs (Units 0) img img t (Err (record { refusal = PowerLost; fuse = Units 0 })) a.0.gone (sym (none_left (update_state g h state.Deleted) (mark_units g h) a.0.gone img (a.0.stores img refl) a.0.one)) refl))
         (refl, refl, λ _. refl))
     by-fuse (Units (suc k)) more = on (Units (suc k)) (Units k) (some_left (update_state g h state.Deleted) (mark_units g h) a.0.gone img (a.0.stores img refl) a.0.one k) (λ _. refl) (more (Units k))

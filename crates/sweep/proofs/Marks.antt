@@ -10,8 +10,8 @@ use lib.ListN.{length, get_or}
 use lib.Bits.{and_zero_r}
 use Rattle.medium.specs.declared.geometry.Geometry.{Geometry}
 use Rattle.medium.specs.declared.fuse.Fuse.{Fuse}
-use Rattle.medium.specs.declared.fuse.Stored.{Stored}
-use Rattle.medium.specs.declared.fuse.Stored.TheVariants as stored
+use Rattle.std.specs.Prelude.{Ok}
+use Rattle.medium.specs.Fuse.{Stored}
 use Rattle.medium.specs.Granularity.{width_of, finish_at, delete_at, size_at, header, block_header}
 use Rattle.medium.specs.Geometry.{check_of, address}
 use Rattle.medium.specs.Units.{FlashUnit}
@@ -177,7 +177,7 @@ module _ (g : Geometry) (t : BlockType) (h : ObjectHeader) (img : List ℕ) (fin
       aside j ne (inl c) (inr d) = absurd (ne (omega arith))
 
   -- with a fuse that was enough
-  pub delete_done : (f left : Fuse) (a : Stored) (after : ObjectHeader) (m : List ℕ) → ended_by a after m ≡ run f (update_state g h state.Deleted) img → a ≡ stored.Done left
+  pub delete_done : (f left : Fuse) (a : Stored) (after : ObjectHeader) (m : List ℕ) → ended_by a after m ≡ run f (update_state g h state.Deleted) img → a ≡ Ok left
       → m ≡ apply (mark_units g h) img
   delete_done f left a after m e d =
       let q : record { answer = done after; fuse = left; state = m } ≡ run f (update_state g h state.Deleted) img = rw d at e in

@@ -1,6 +1,6 @@
 -- Slots: what was met stays met, and a key that takes a slot is met from then on.
 use mathlib.Core.Path.{◌≡◌, refl, sym, ap, ◌∙◌, subst}
-use mathlib.Core.Logic.{inl, inr, ◌≢◌}
+use mathlib.Core.Logic.{◌≢◌}
 use mathlib.Core.Bool.{Bool, true, false, false≢true}
 use mathlib.Core.List.{List, [], ◌∷◌, ◌++◌}
 use Prim.Native.Nat.{ℕ, zero, suc, ◌+◌, ◌-◌, ◌*◌, ◌/◌, ◌%◌, ◌≤◌, ◌<◌}
@@ -10,8 +10,6 @@ use lib.ListN.{length, get_or, set, drop, length-set, drop_of_length-le}
 use lib.Seq.{drop-cons, get_or-set_same, get_or-set_other}
 use lib.Dec.{eqb}
 use borrow.Author.Tests.{eqb-true, eqb-false, eq-eqb, ne_eqb}
-use types.Run.{OneOf}
-use denote.Enum.Declared.{tag_of}
 use Rattle.medium.specs.declared.geometry.Geometry.{Geometry}
 use Rattle.medium.specs.Granularity.{pick}
 use Rattle.medium.specs.Geometry.{check_of}
@@ -21,11 +19,11 @@ use Rattle.objects.specs.declared.header.ObjectHeader.{ObjectHeader}
 use Rattle.objects.specs.Payload.{read_payload, same_bytes, same_payload}
 use Rattle.objects.proofs.Equal.{equal_is}
 use Rattle.storage.specs.Laws.{All}
-use Rattle.sweep.specs.declared.slots.Slot.{Slot}
 use Rattle.sweep.specs.declared.slots.Slot.TheVariants.{Met, Free, Full}
 use Rattle.sweep.specs.Lists.{some}
-use Rattle.sweep.specs.Twins.{type_in, is_twin}
-use Rattle.sweep.specs.Slots.{key_from, key_of, key_at, slots_in, start_slot, find_from, find, taken, take_by, is_met, Knows}
+use Rattle.objects.specs.Types.{type_number}
+use Rattle.sweep.specs.Twins.{is_twin}
+use Rattle.sweep.specs.Slots.{key_from, key_of, key_at, slots_in, start_slot, find_from, find, taken, is_met, Knows}
 use Rattle.sweep.proofs.Lists.{all_map, some_not}
 use Rattle.sweep.proofs.Alike.{both_true}
 use Rattle.sweep.proofs.Kept.{Kept, payload_kept}
@@ -39,9 +37,6 @@ module _ (ws : List ℕ) (slots i key : ℕ) where
   module _ (h : i < slots) where
     one_more : slots - i ≡ suc (slots - (i + 1))
     one_more = omega arith
-
-    pub find-free : get_or ws (i * 3) 0 ≡ 0 → find_from (slots - i) ws i key ≡ Free i
-    find-free e = rw (one_more, eq-eqb _ _ e)
 
     module _ (n : get_or ws (i * 3) 0 ≢ 0) where
       pub find-met : get_or ws (i * 3 + 1) 0 ≡ key → find_from (slots - i) ws i key ≡ Met (get_or ws (i * 3 + 2) 0)
@@ -190,20 +185,13 @@ module _ (ws : List ℕ) (key i : ℕ) (e : find ws key ≡ Free i) where
     pub met-now : is_met (find (taken ws i key block) key) ≡ true
     met-now = ap is_met (next-find key) ∙ now_met ws i key block free_room (slots_in ws - start_slot (slots_in ws) key) (start_slot (slots_in ws) key) looked
 
--- nothing is taken but a free slot
-pub take_none : (s : Slot) (key block : ℕ) (ws : List ℕ) → OneOf (0 ∷ 2 ∷ []) (tag_of Rattle.sweep.specs.contracts.slots.Slot.the_type s) → take_by s key block ws ≡ ws
-take_none (Met b) key block ws e = refl
-take_none (Free i) key block ws (inl e) = absurd (omega arith)
-take_none (Free i) key block ws (inr e) = absurd (omega arith)
-take_none Full key block ws e = refl
-
 -- ---- what is known of objects
 
 module _ (g : Geometry) (img : List ℕ) where
   -- twins have one key
   twin_key : (a b : ObjectHeader) → is_twin g img a b ≡ true → key_at g img a ≡ key_at g img b
   unfolding is_twin same_payload
-  twin_key a b t = go (read_payload g a img) (read_payload g b img) (both_true (eqb (type_in a.state) (type_in b.state)) (same_bytes (read_payload g a img) (read_payload g b img)) t).1
+  twin_key a b t = go (read_payload g a img) (read_payload g b img) (both_true (eqb (type_number a.state) (type_number b.state)) (same_bytes (read_payload g a img) (read_payload g b img)) t).1
     where
       go : (x y : Answer (List ℕ)) → same_bytes x y ≡ true → key_of (lent x) ≡ key_of (lent y)
       go (done x) (done y) s = ap key_of (equal_is x y s)
@@ -226,10 +214,6 @@ module _ (g : Geometry) (img : List ℕ) where
             go : (b : Bool) → is_twin g img h e ≡ b → b ≡ false
             go false q = refl
             go true q = absurd (false≢true (sym (ap is_met f) ∙ ap (λ (x : ℕ). is_met (find ws x)) (its ∙ twin_key h e q) ∙ m))
-
-    -- it was met before, or is from now on
-    pub knows-met : (b : ℕ) → find ws key ≡ Met b → Knows g img ws (hs ++ h ∷ [])
-    knows-met b f = more ws h hs k (ap (λ (x : ℕ). is_met (find ws x)) (sym its) ∙ ap is_met f)
 
     pub knows-now : (i block : ℕ) → find ws key ≡ Free i → Knows g img (taken ws i key block) (hs ++ h ∷ [])
     knows-now i block f =

@@ -2,13 +2,12 @@
 use mathlib.Core.Path.{◌≡◌, refl, sym, ap, ◌∙◌}
 use mathlib.Core.Logic.{◌⊎◌, inl, inr, ◌≢◌}
 use mathlib.Core.Bool.{Bool, true, false, ◌&&◌, ◌||◌, not}
-use mathlib.Core.List.{List, [], ◌∷◌, ◌++◌, append_assoc}
-use Prim.Native.Nat.{ℕ, suc, ◌+◌, ◌*◌, ◌≤◌, ◌<◌}
+use mathlib.Core.List.{List, [], ◌∷◌, ◌++◌}
+use Prim.Native.Nat.{ℕ, ◌+◌, ◌*◌, ◌≤◌, ◌<◌}
 use native.Mathlib.Nat.{suc-mul, mul-le-mul_right}
-use native.Mathlib.Numerals.{add-one}
 use native.Mathlib.Omega.{arith}
-use lib.ListN.{length, get_or, set, drop, replicate, length-set, length-replicate, get_or-replicate, replicate-append-replicate, get_or-eq_default}
-use lib.Seq.{drop-cons, set_at, get_or-set_same, get_or-set_other}
+use lib.ListN.{length, get_or, set, replicate, length-set, length-replicate, get_or-replicate, get_or-eq_default}
+use lib.Seq.{get_or-set_same, get_or-set_other}
 use lib.Dec.{leb, eqb}
 use borrow.Author.Tests.{eqb-true, eqb-false, eq-eqb, ne_eqb, le-leb, lt-leb}
 use Rattle.medium.specs.declared.geometry.Geometry.{Geometry}
@@ -28,17 +27,6 @@ use Rattle.sweep.specs.Notes.{note, is_noted, Inside, note_all, noted, places_in
 use Rattle.sweep.proofs.Marks.{Listed, at_object, in_image}
 use Rattle.sweep.proofs.Toured.{all_listed}
 use Rattle.sweep.proofs.Alike.{some_append}
-
--- ---- the words one by one
-
--- one more is cleared
-pub clear_more : (i : ℕ) (ws now : List ℕ) → i < length ws → now ≡ replicate i 0 ++ drop i ws → set now i 0 ≡ replicate (i + 1) 0 ++ drop (i + 1) ws
-clear_more i ws now h e =
-    ap (λ (l : List ℕ). set l i 0) (e ∙ ap (λ (l : List ℕ). replicate i 0 ++ l) (drop-cons ws i 0 h))
-    ∙ set_at (replicate i 0) (get_or ws i 0) (drop (suc i) ws) 0 i (length-replicate {A = ℕ} i 0)
-    ∙ sym (append_assoc (replicate i 0) (0 ∷ []) (drop (suc i) ws))
-    ∙ ap (λ (l : List ℕ). l ++ drop (suc i) ws) (replicate-append-replicate i 1 0)
-    ∙ ap (λ (n : ℕ). replicate (i + 1) 0 ++ drop n ws) (sym (add-one i))
 
 -- ---- two places have one word only where they are the same
 

@@ -15,7 +15,7 @@ use Rattle.medium.specs.Operation.{Answer, done, refused, and_then}
 use Rattle.medium.specs.Medium.{part, read_at, lent}
 use Rattle.objects.specs.declared.location.ObjectLocation.{ObjectLocation}
 use Rattle.objects.specs.declared.header.ObjectHeader.{ObjectHeader}
-use Rattle.objects.specs.declared.header.PayloadSize.TheVariants.{Set, Unset}
+use Rattle.std.specs.Prelude.{Option, Some, None}
 use Rattle.objects.specs.declared.metadata.MetadataObjectHeader.{MetadataObjectHeader}
 use Rattle.objects.specs.Numbers.{number, unset_of}
 use Rattle.objects.specs.Header.{state_at, sized_at, header_at, payload_of, payload_size_of}
@@ -98,13 +98,13 @@ module _ (g : Geometry) (h : ObjectHeader) (img bs : List ℕ) (k : ℕ) (f : Fi
 
   -- ---- the list of further locations
 
-  sized : payload_size_of g.s h ≡ Set (length bs)
+  sized : payload_size_of g.s h ≡ Some (length bs)
   unfolding payload_size_of payload_of
   sized = go (eqb h.size (unset_of g.s)) as_long
     where
-      go : (b : Bool) → pick b 0 h.size ≡ length bs → pick b Unset (Set h.size) ≡ Set (length bs)
+      go : (b : Bool) → pick b 0 h.size ≡ length bs → ◌≡◌ {A = Option ℕ} (pick b None (Some h.size)) (Some (length bs))
       go true e = absurd (omega (arith, f.long))
-      go false e = ap Set e
+      go false e = ap Some e
 
   listable_at : (c : ℕ) → metadata_header g + c ≤ length bs → listable g (metadata_by g h bs c) (length img) ≡ done (length bs - metadata_header g)
   unfolding listable

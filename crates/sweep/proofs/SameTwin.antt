@@ -15,7 +15,8 @@ use Rattle.objects.specs.Metadata.{metadata_header}
 use Rattle.objects.proofs.Equal.{equal_is}
 use Rattle.storage.specs.Lookup.{is_named}
 use Rattle.sweep.specs.Referring.{locations_of, is_whole}
-use Rattle.sweep.specs.Twins.{type_in, is_twin}
+use Rattle.objects.specs.Types.{type_number}
+use Rattle.sweep.specs.Twins.{is_twin}
 use Rattle.sweep.proofs.ReadsKept.{Filled, bytes_of, further_of, filled_whole, as_long, in_reach, locations_of_lem, named_of}
 
 -- the second has the bytes that the first has
@@ -30,7 +31,7 @@ module _ (g : Geometry) (img : List ℕ) (fine : check_of g (length img) ≡ 0) 
 
   second : Filled g b img (bytes_of g a img) (further_of g a)
   unfolding is_twin same_payload
-  second = record { fine = fine; reads = second_reads (read_payload g a img) (read_payload g b img) (bytes_of g a img) (right (eqb (type_in a.state) (type_in b.state)) _ t) first.reads; long = first.long }
+  second = record { fine = fine; reads = second_reads (read_payload g a img) (read_payload g b img) (bytes_of g a img) (right (eqb (type_number a.state) (type_number b.state)) _ t) first.reads; long = first.long }
     where
       right : (p q : Bool) → (p && q) ≡ true → q ≡ true
       right true q e = e

@@ -5,11 +5,13 @@ use mathlib.Core.List.{List, [], ◌∷◌}
 use Prim.Native.Nat.{ℕ, ◌+◌}
 use lib.ListN.{length}
 use lib.Dec.{eqb}
-use borrow.Author.Tests.{eq-eqb, ne_eqb}
+use borrow.Author.Tests.{ne_eqb}
 use Rattle.medium.specs.declared.geometry.Geometry.{Geometry}
 use Rattle.medium.specs.declared.fuse.Fuse.{Fuse}
-use Rattle.medium.specs.declared.fuse.Stored.{Stored}
-use Rattle.medium.specs.declared.fuse.Stored.TheVariants as stored
+use Rattle.std.specs.Prelude.{Ok, Err}
+use Rattle.medium.specs.declared.fuse.Stopped.{Stopped}
+use Rattle.medium.specs.Refusal.{refusal_number}
+use Rattle.medium.specs.Fuse.{Stored}
 use Rattle.medium.specs.Granularity.{pick}
 use Rattle.medium.specs.Geometry.{check_of}
 use Rattle.medium.specs.Operation.{EndIn, done, refused, run, ended_by, ended, ◌>>=◌}
@@ -36,16 +38,16 @@ module _ (g : Geometry) (which n : ℕ) where
 
   module _ (h : ObjectHeader) (hs : List ObjectHeader) (f : Fuse) (img after t : List ℕ) (a : Stored) (x : ObjectHeader) (e : ended_by a x after ≡ run f (update_state g h state.Deleted) img) where
     -- its mark is stored: it counts, and the next has its turn
-    pub delete-on : {left : Fuse} → a ≡ stored.Done left → run f (deleting g which n (h ∷ hs)) (both img t) ≡ run left (deleting g which (n + 1) hs) (both after (one_more t))
+    pub delete-on : {left : Fuse} → a ≡ Ok left → run f (deleting g which n (h ∷ hs)) (both img t) ≡ run left (deleting g which (n + 1) hs) (both after (one_more t))
     unfolding deleting
     delete-on {left} d =
         image_on f (update_state g h state.Deleted) (λ _. count_to which (n + 1) >>= λ _. deleting g which (n + 1) hs) img after t a x left e d
         ∙ count_on left (λ _. deleting g which (n + 1) hs) after t
 
     -- refused: the numbers stay
-    pub delete-stop : {k : ℕ} {left : Fuse} → a ≡ stored.Refused k left → run f (deleting g which n (h ∷ hs)) (both img t) ≡ record { answer = refused k; fuse = left; state = both after t }
+    pub delete-stop : {s : Stopped} → a ≡ Err s → run f (deleting g which n (h ∷ hs)) (both img t) ≡ record { answer = refused (refusal_number s.refusal); fuse = s.fuse; state = both after t }
     unfolding deleting
-    delete-stop {k} {left} d = image_stop f (update_state g h state.Deleted) (λ _. count_to which (n + 1) >>= λ _. deleting g which (n + 1) hs) img after t a x left e d
+    delete-stop {s} d = image_stop f (update_state g h state.Deleted) (λ _. count_to which (n + 1) >>= λ _. deleting g which (n + 1) hs) img after t a x s.fuse e d
 
   pub delete_none : (f : Fuse) (s : Both) → run f (deleting g which n []) s ≡ record { answer = done tt; fuse = f; state = s }
   unfolding deleting
@@ -69,9 +71,6 @@ module _ (g : Geometry) (room words r : ℕ) (e : r ≡ check_of g room) where
   pub fit_other : r ≡ 0 → (words ≡ room → ⊥) → 7 ≡ words_fit g room words
   fit_other z n = sym (admit_pass g room (pick (eqb words room) 0 7) r e z ∙ ap (λ (b : Bool). pick b 0 7) (ne_eqb words room n))
 
-  pub fit_right : r ≡ 0 → words ≡ room → 0 ≡ words_fit g room words
-  fit_right z q = sym (admit_pass g room (pick (eqb words room) 0 7) r e z ∙ ap (λ (b : Bool). pick b 0 7) (eq-eqb words room q))
-
 module _ (g : Geometry) (f : Fuse) (img t : List ℕ) where
   pub sweep_stop : (n : ℕ) → sweepable g img ≡ refused n → run f (sweep g) (both img t) ≡ record { answer = refused n; fuse = f; state = both img t }
   unfolding sweep
@@ -83,11 +82,11 @@ module _ (g : Geometry) (f : Fuse) (img t : List ℕ) where
     sweep-on = ask_on f (λ (s : Both). sweepable g s.image) (λ _. deleting_twins g >>= λ _. deleting_unreferred g) (both img t) e
 
     module _ (a : Stored) (after u : List ℕ) (r : ended a (both after u) ≡ run f (deleting_twins g) (both img t)) where
-      pub twins-done : {left : Fuse} → a ≡ stored.Done left → run f (sweep g) (both img t) ≡ run left (deleting_unreferred g) (both after u)
+      pub twins-done : {left : Fuse} → a ≡ Ok left → run f (sweep g) (both img t) ≡ run left (deleting_unreferred g) (both after u)
       twins-done {left} d = sweep-on ∙ on f (deleting_twins g) (λ _. deleting_unreferred g) (both img t) (both after u) a tt left r d
 
-      pub twins-cut : {n : ℕ} {left : Fuse} → a ≡ stored.Refused n left → run f (sweep g) (both img t) ≡ record { answer = refused n; fuse = left; state = both after u }
-      twins-cut {n} {left} d = sweep-on ∙ stop f (deleting_twins g) (λ _. deleting_unreferred g) (both img t) (both after u) a tt left r d
+      pub twins-cut : {s : Stopped} → a ≡ Err s → run f (sweep g) (both img t) ≡ record { answer = refused (refusal_number s.refusal); fuse = s.fuse; state = both after u }
+      twins-cut {s} d = sweep-on ∙ stop f (deleting_twins g) (λ _. deleting_unreferred g) (both img t) (both after u) a tt s.fuse r d
 
   -- ---- with words for notes
 
@@ -111,5 +110,5 @@ pub twins_fine : (g : Geometry) (f : Fuse) (img t : List ℕ) (a : Stored) (afte
 twins_fine g f img t a after u r fine = ap (check_of g) (go a r ∙ length_run f (deleting_twins g) (both img t)) ∙ fine
   where
     go : (a : Stored) → ended a (both after u) ≡ run f (deleting_twins g) (both img t) → length after ≡ length (run f (deleting_twins g) (both img t)).state.image
-    go (stored.Done left) q = ap (λ (x : EndIn Both (Unit {0})). length x.state.image) q
-    go (stored.Refused n left) q = ap (λ (x : EndIn Both (Unit {0})). length x.state.image) q
+    go (Ok left) q = ap (λ (x : EndIn Both (Unit {0})). length x.state.image) q
+    go (Err s) q = ap (λ (x : EndIn Both (Unit {0})). length x.state.image) q

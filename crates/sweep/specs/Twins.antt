@@ -3,24 +3,18 @@
 use Rattle.std.specs.Prelude.{ℕ, Bool, ◌&&◌, List, [], ◌∷◌, ◌++◌, eqb}
 use Rattle.medium.specs.declared.geometry.Geometry.{Geometry}
 use Rattle.medium.specs.Granularity.{pick}
-use Rattle.objects.specs.declared.state.CompositeObjectState.{CompositeObjectState}
-use Rattle.objects.specs.declared.state.CompositeObjectState.TheVariants.{Free, Allocated}
 use Rattle.objects.specs.declared.location.ObjectLocation.{ObjectLocation}
 use Rattle.objects.specs.declared.header.ObjectHeader.{ObjectHeader}
-use Rattle.objects.specs.Types.{type_byte}
+use Rattle.objects.specs.Types.{type_number}
 use Rattle.objects.specs.Payload.{same_payload}
 use Rattle.sweep.specs.Lists.{some, except}
 use Rattle.sweep.specs.Referring.{metadata_in, data_in, same_at, is_among, locations_of}
 
 -- ---- twins
 
-abbrev pub type_in : CompositeObjectState → ℕ
-type_in Free = 0xFF
-type_in (Allocated t d) = type_byte t
-
 -- equal type and payload bytes
 unfoldable pub is_twin : Geometry → List ℕ → ObjectHeader → ObjectHeader → Bool
-is_twin g img a b = eqb (type_in a.state) (type_in b.state) && same_payload g a b img
+is_twin g img a b = eqb (type_number a.state) (type_number b.state) && same_payload g a b img
 
 -- those that have their like before them
 abbrev pub twins_in : (ObjectHeader → ObjectHeader → Bool) → List ObjectHeader → List ObjectHeader → List ObjectHeader

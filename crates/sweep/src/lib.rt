@@ -16,15 +16,18 @@ mod unreferred;
 
 ghost use Rattle.std.specs.Prelude.{◌≡◌, [], ◌∷◌, length};
 ghost use Rattle.medium.specs.Operation.{run, ended};
+ghost use Rattle.medium.specs.Refusal.{code_of};
 ghost use Rattle.medium.specs.Beside.{both};
 ghost use Rattle.sweep.specs.Sweep;
 ghost use Rattle.sweep.specs.Sweep.{words_fit, sweep_with, words_after};
 
-use medium::fuse::{Answered, Fuse, Stored};
+use medium::fuse::{Fuse, Stopped, Stored};
 use medium::geometry::Geometry;
+use medium::refusal::Refusal;
 
-// An answer, with how many twins and how many objects that nothing refers to were deleted before it.
-#[derive(Clone, Copy)]
+// An answer, with how many twins and how many objects that nothing refers to were deleted before it. No Result: the numbers come back after a
+// refusal too.
+#[derive(Clone, Copy, Debug, PartialEq, Eq)]
 pub struct Swept {
     pub answer: Stored,
     pub twins: u32,
@@ -35,13 +38,11 @@ pub struct Swept {
 fn phases(g: Geometry, image: &mut [u8], f: Fuse, words: &mut [u32]) -> Swept
     ensures { ended result.answer (both image.new (result.twins ∷ result.unreferred ∷ [])) ≡ run f (Rattle.sweep.specs.Sweep.sweep g) (both image.old (0 ∷ 0 ∷ [])) }
 {
-    let a = check::check(g, image, words);
-    let Answered::Done = a else {
-        return ended_with(Stored::Refused(a.number(), f), 0, 0);
-    };
+    if let Err(refusal) = check::check(g, image, words) {
+        return stopped(refusal, f);
+    }
     let t = twins::delete_twins(g, image, f, words);
-    let first = t.answer;
-    let Stored::Done(left) = first else {
+    let Ok(left) = t.answer else {
         return t;
     };
     unreferred::delete_unreferred(g, image, left, words, t.twins)
@@ -58,6 +59,29 @@ pub(crate) fn ended_with(answer: Stored, twins: u32, unreferred: u32) -> Swept
     }
 }
 
+// Refused before anything was deleted.
+fn stopped(refusal: Refusal, f: Fuse) -> Swept
+    ensures { result ≡ record { answer = Err (record { refusal = refusal; fuse = f }); twins = 0; unreferred = 0 } }
+{
+    let answer = Err(Stopped {
+        refusal: refusal,
+        fuse: f,
+    });
+    ended_with(answer, 0, 0)
+}
+
+// Whether there is a word for each byte of the image.
+#[tactic(auto, using(medium::proofs::Refusals::passed, crate::proofs::Turns::fit_stop, crate::proofs::Turns::fit_other))]
+fn words_fit(g: Geometry, room: usize, words: usize) -> Result<(), Refusal>
+    ensures { code_of result ≡ Rattle.sweep.specs.Sweep.words_fit g room words }
+{
+    medium::geometry::check(g, room)?;
+    if words != room {
+        return Err(Refusal::BadRoom);
+    }
+    Ok(())
+}
+
 // With no memory but a few words: what was met is searched for again.
 pub fn sweep(g: Geometry, image: &mut [u8], f: Fuse) -> Swept
     ensures { ended result.answer (both image.new (result.twins ∷ result.unreferred ∷ [])) ≡ run f (Rattle.sweep.specs.Sweep.sweep g) (both image.old (0 ∷ 0 ∷ [])) }
@@ -71,14 +95,10 @@ pub fn sweep_with(g: Geometry, image: &mut [u8], f: Fuse, words: &mut [u32]) -> 
     ensures unreferred_after { ended result.answer (both image.new (result.twins ∷ result.unreferred ∷ [])) ≡ run f (sweep_with g (length words.old)) (both image.old (0 ∷ 0 ∷ [])) }
     ensures words_after { words.new ≡ words_after (words_fit g (length image.old) (length words.old)) words.old }
 {
-    let bad = medium::geometry::check(g, image.len());
-    if bad != 0 {
-        return ended_with(Stored::Refused(bad, f), 0, 0);
-    }
-    if words.len() != image.len() {
-        return ended_with(Stored::Refused(7, f), 0, 0);
+    if let Err(refusal) = words_fit(g, image.len(), words.len()) {
+        return stopped(refusal, f);
     }
     let s = phases(g, image, f, words);
-    notes::clear(words);
+    words.fill(0);
     s
 }

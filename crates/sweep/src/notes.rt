@@ -1,22 +1,11 @@
 // Notes in lent words, so that what was met once need not be searched for. There is one word for each byte of the image, or there are none to
 // speak of, and then everything is searched for.
-ghost use Rattle.std.specs.Prelude.{◌≡◌, length, replicate};
+ghost use Rattle.std.specs.Prelude.{◌≡◌};
 ghost use Rattle.medium.specs.Geometry.{address};
 ghost use Rattle.sweep.specs.Notes.{note, is_noted};
 
 use medium::geometry::Geometry;
 use objects::location::ObjectLocation;
-
-// Nothing is noted.
-pub(crate) fn clear(words: &mut [u32])
-    ensures { words.new ≡ replicate (length words.old) 0 }
-{
-    let mut i = 0;
-    while i < words.len() {
-        words[i] = 0;
-        i += 1;
-    }
-}
 
 // The word of a place.
 fn word_of(g: Geometry, at: ObjectLocation) -> usize
@@ -26,6 +15,7 @@ fn word_of(g: Geometry, at: ObjectLocation) -> usize
 }
 
 // Notes a place, as far as there are words.
+#[tactic(auto, unfolding(crate::specs::Notes::note))]
 pub(crate) fn note(g: Geometry, words: &mut [u32], at: ObjectLocation)
     ensures { words.new ≡ Rattle.sweep.specs.Notes.note g at words.old }
 {
@@ -38,6 +28,7 @@ pub(crate) fn note(g: Geometry, words: &mut [u32], at: ObjectLocation)
     }
 }
 
+#[tactic(auto, unfolding(crate::specs::Notes::is_noted))]
 pub(crate) fn is_noted(g: Geometry, words: &[u32], at: ObjectLocation) -> bool
     ensures { result ≡ is_noted g at words.now }
 {

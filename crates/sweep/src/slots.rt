@@ -3,7 +3,7 @@ ghost use Rattle.std.specs.Prelude.{◌≡◌};
 ghost use Rattle.sweep.specs.Slots.{key_of, find, take_by};
 
 // The key has a slot already, with a block to look from; or this slot is free; or there is none.
-#[derive(Clone, Copy)]
+#[derive(Clone, Copy, Debug, PartialEq, Eq)]
 pub(crate) enum Slot {
     Met(u32),
     Free(usize),
@@ -11,19 +11,18 @@ pub(crate) enum Slot {
 }
 
 // A number that equal bytes share.
+#[tactic(auto, unfolding(crate::specs::Slots::key_of), using(crate::proofs::MetKeys::key_more, crate::proofs::MetKeys::key_end))]
 pub(crate) fn key(bytes: &[u8]) -> u32
     ensures { result ≡ key_of bytes.now }
 {
     let mut n: u64 = 0;
-    let mut i = 0;
-    while i < bytes.len() {
-        let b = bytes[i] as u64;
-        n = (n * 16777619 + b) % 4294967291;
-        i += 1;
+    for b in bytes {
+        n = (n * 16777619 + *b as u64) % 4294967291;
     }
     n as u32
 }
 
+#[tactic(auto, unfolding(crate::specs::Slots::find), using(crate::proofs::MetKeys::find_end))]
 fn find(words: &[u32], key: u32) -> Slot
     ensures { result ≡ Rattle.sweep.specs.Slots.find words.now key }
 {
@@ -31,8 +30,8 @@ fn find(words: &[u32], key: u32) -> Slot
     if slots == 0 {
         return Slot::Full;
     }
-    let mut i = (key as usize) % (slots - slots / 16);
-    while i < slots {
+    let start = (key as usize) % (slots - slots / 16);
+    for i in start..slots {
         let at = i * 3;
         if words[at] == 0 {
             return Slot::Free(i);
@@ -40,7 +39,6 @@ fn find(words: &[u32], key: u32) -> Slot
         if words[at + 1] == key {
             return Slot::Met(words[at + 2]);
         }
-        i += 1;
     }
     Slot::Full
 }

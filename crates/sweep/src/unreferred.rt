@@ -7,10 +7,10 @@ ghost use Rattle.sweep.specs.Sweep.{deleting_unreferred};
 
 use crate::{Swept, refs};
 use blocks::header::BlockType;
-use medium::fuse::{Fuse, Stored};
+use medium::fuse::Fuse;
 use medium::geometry::Geometry;
 use objects::state::ObjectState;
-use storage::visit::{Visited, Visitor};
+use storage::visit::Visitor;
 
 // With so many twins deleted before them.
 pub(crate) fn delete_unreferred(
@@ -27,22 +27,17 @@ pub(crate) fn delete_unreferred(
     let mut v = Visitor::new(g);
     let mut fuse = f;
     let mut n: u32 = 0;
-    loop {
-        let x = v.next(g, image, BlockType::Data);
-        let Visited::Object(h, w) = x else {
-            return crate::ended_with(Stored::Done(fuse), twins, n);
-        };
-        if refs::is_referred(g, image, words, h.location) {
-            v = w;
-            continue;
+    while let Ok(Some((h, w))) = v.next(g, image, BlockType::Data) {
+        if !refs::is_referred(g, image, words, h.location) {
+            match h.update_state(g, image, fuse, ObjectState::Deleted) {
+                Err(stopped) => return crate::ended_with(Err(stopped), twins, n),
+                Ok((_, left)) => {
+                    fuse = left;
+                    n += 1;
+                }
+            }
         }
-        let d = h.update_state(g, image, fuse, ObjectState::Deleted);
-        let a = d.answer;
-        let Stored::Done(left) = a else {
-            return crate::ended_with(a, twins, n);
-        };
-        fuse = left;
-        n += 1;
         v = w;
     }
+    crate::ended_with(Ok(fuse), twins, n)
 }

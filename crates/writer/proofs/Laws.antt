@@ -1,23 +1,23 @@
 -- Laws of the writer's definitions: what a passed test tells, and the tail.
-use mathlib.Core.Path.{◌≡◌, refl, sym, ap, ◌∙◌}
+use mathlib.Core.Path.{◌≡◌, refl, sym, ◌∙◌}
 use mathlib.Core.Bool.{Bool, true, false, ◌&&◌, false≢true}
-use mathlib.Core.List.{List, [], ◌∷◌, ◌++◌}
-use Prim.Native.Nat.{ℕ, zero, suc, ◌+◌, ◌-◌, ◌≤◌, ◌<◌}
+use mathlib.Core.List.{List, [], ◌∷◌}
+use Prim.Native.Nat.{ℕ, ◌+◌, ◌-◌, ◌≤◌, ◌<◌}
 use native.Mathlib.Omega.{arith}
-use lib.ListN.{length, take, drop, get_or, set, length-drop}
-use native.Mathlib.Numerals.{add-one}
-use lib.Seq.{paste, paste-suc, take-paste, take_all, take-length}
-use lib.Dec.{leb, ltb, eqb, eqb-suc-zero}
+use lib.ListN.{length, take, drop, length-drop}
+use lib.Seq.{paste, take_all}
+use lib.Dec.{leb, ltb, eqb}
 use borrow.Author.Tests.{ltb-true, leb-true, eqb-true, eq-eqb}
 use Rattle.medium.specs.declared.geometry.Geometry.{Geometry}
 use Rattle.medium.specs.Granularity.{pick, width_of}
-use Rattle.medium.specs.Geometry.{fit_of}
-use Rattle.medium.specs.Operation.{Answer, refused, and_then, or_refuse, give}
-use Rattle.objects.specs.Types.{rank_of}
+use Rattle.medium.specs.Operation.{give}
+use mathlib.Core.Logic.{◌⊎◌, inl, inr}
+use Rattle.objects.specs.declared.state.ObjectState.{ObjectState}
+use Rattle.objects.specs.declared.state.ObjectState.TheVariants as state
+use Rattle.objects.specs.Types.{rank_of, rank_in}
 use Rattle.medium.proofs.Checks.{Fine, admitted}
 use Rattle.writer.specs.declared.writer.ObjectWriter.{ObjectWriter}
-use Rattle.writer.specs.Writer.{no_tail, data_at, possible, sound_of, may_write, pending_of, tail_of, may_finish, deleting}
-use Rattle.writer.specs.Steps.{usable_of}
+use Rattle.writer.specs.Writer.{no_tail, data_at, possible, sound_of, may_write, tail_of, may_finish, deleting}
 
 abbrev pub width : Geometry → ℕ
 width g = width_of g.granularity
@@ -77,39 +77,10 @@ finish_is w g room r e z = go (eqb (sound_of w g room) 0) refl (eqb (rank_of w.o
     go true p b h = sound_is w g room (sound_of w g room) refl (eqb-true _ _ p)
     go false p b h = absurd (false≢true (sym p ∙ eq-eqb _ _ h))
 
-pub deleting_other : (g : Geometry) (w : ObjectWriter) (n : ℕ) → (n ≡ 1 → ⊥) → (n ≡ 2 → ⊥) → deleting g w n ≡ give w
-deleting_other g w zero a b = refl
-deleting_other g w (suc zero) a b = absurd (a refl)
-deleting_other g w (suc (suc zero)) a b = absurd (b refl)
-deleting_other g w (suc (suc (suc n))) a b = refl
-
--- ---- with no image
-
-pub usable_is : (w : ObjectWriter) (g : Geometry) (r : ℕ) → r ≡ usable_of w g → r ≡ 0 → Possible w g
-usable_is w g r e z = go (eqb (fit_of g) 0) refl (sym e ∙ z)
-  where
-    go : (t : Bool) → eqb (fit_of g) 0 ≡ t → pick t (possible g w) (fit_of g) ≡ 0 → Possible w g
-    go true q h = possible_is w g (possible g w) refl h
-    go false q h = absurd (false≢true (sym q ∙ eq-eqb _ _ h))
-
--- two refusals in a row are one
-pub usable_on : (w : ObjectWriter) (g : Geometry) (r : ℕ) (a : Answer ℕ) → r ≡ usable_of w g → r ≡ 0
-    → and_then (or_refuse (fit_of g)) (λ _. and_then (or_refuse (possible g w)) (λ _. a)) ≡ a
-usable_on w g r a e z = go (fit_of g) (possible g w) (sym e ∙ z)
-  where
-    go : (m n : ℕ) → pick (eqb m 0) n m ≡ 0 → and_then (or_refuse m) (λ _. and_then (or_refuse n) (λ _. a)) ≡ a
-    go zero zero h = refl
-    go zero (suc n) h = absurd (omega arith)
-    go (suc m) n h = let q : suc m ≡ 0 = rw (eqb-suc-zero m) at h in absurd (omega arith)
-
-pub usable_stop : (w : ObjectWriter) (g : Geometry) (r : ℕ) (a : Answer ℕ) → r ≡ usable_of w g → (r ≡ 0 → ⊥)
-    → and_then (or_refuse (fit_of g)) (λ _. and_then (or_refuse (possible g w)) (λ _. a)) ≡ refused r
-usable_stop w g r a e z = go (fit_of g) (possible g w) e
-  where
-    go : (m n : ℕ) → r ≡ pick (eqb m 0) n m → and_then (or_refuse m) (λ _. and_then (or_refuse n) (λ _. a)) ≡ refused r
-    go zero zero h = absurd (z h)
-    go zero (suc n) h = ap {B = Answer ℕ} refused (sym h)
-    go (suc m) n h = ap {B = Answer ℕ} refused (sym (rw (eqb-suc-zero m) at h))
+-- where nothing is there, or it is deleted
+pub deleting_none : (g : Geometry) (w : ObjectWriter) (st : ObjectState) → (st ≡ state.Free) ⊎ (st ≡ state.Deleted) → deleting g w (rank_in st) ≡ give w
+deleting_none g w st (inl e) = rw e
+deleting_none g w st (inr e) = rw e
 
 -- ---- the tail
 
@@ -120,17 +91,6 @@ tail_pasted (a ∷ b ∷ []) h = refl
 tail_pasted (a ∷ b ∷ c ∷ []) h = refl
 tail_pasted (a ∷ b ∷ c ∷ d ∷ []) h = refl
 tail_pasted (a ∷ b ∷ c ∷ d ∷ e ∷ bs) h = absurd (omega arith)
-
-pub pending_pasted : (w : ObjectWriter) (src : List ℕ) → w.held ≤ length w.tail
-    → take (w.held + length src) (paste w.tail w.held src (length src)) ≡ pending_of w src
-pending_pasted w src h = take-paste w.tail w.held src (length src) h (omega arith) ∙ ap (λ (l : List ℕ). take w.held w.tail ++ l) (take-length src)
-
--- a turn of the loop that pastes
-pub paste_more : (d : List ℕ) (at : ℕ) (s w : List ℕ) (j : ℕ) → length d ≡ 4 → at + length s ≤ 4 → j < length s → w ≡ paste d at s j
-    → set w (at + j) (get_or s j 0) ≡ paste d at s (j + 1)
-paste_more d at s w j l h k e =
-    let p : at + j < length d = omega arith in
-    rw (e, add-one) (paste-suc d at s j 0 p k)
 
 pub rest_all : (xs : List ℕ) (n : ℕ) → take (length xs - n) (drop n xs) ≡ drop n xs
 rest_all xs n = take_all (length xs - n) (drop n xs) (simp length-drop (omega arith))

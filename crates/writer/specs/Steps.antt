@@ -2,7 +2,7 @@
 -- up to a word first. And the tests that several calls begin with.
 use Rattle.std.specs.Prelude.{ℕ, List, length, take, drop, eqb}
 use Rattle.medium.specs.declared.geometry.Geometry.{Geometry}
-use Rattle.medium.specs.declared.fuse.Stored.{Stored}
+use Rattle.medium.specs.Fuse.{Stored}
 use Rattle.medium.specs.Granularity.{pick, width_of}
 use Rattle.medium.specs.Geometry.{fit_of}
 use Rattle.medium.specs.Operation.{Op, ◌>>=◌, ◌>>◌, give}

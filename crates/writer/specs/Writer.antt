@@ -1,12 +1,14 @@
 -- "The writer stores type, then payload, then size, then mark. Under Word(4) a tail of up to 3 bytes is held until the word fills or the
 -- object ends." "after 8 [it] is spent: each later write, finish or delete of it gives 4."
-use Rattle.std.specs.Prelude.{ℕ, zero, suc, ◌+◌, ◌-◌, ◌%◌, min, List, [], ◌∷◌, ◌++◌, true, false, ◌&&◌, length, take, drop, leb, ltb, eqb}
+use Rattle.std.specs.Prelude.{ℕ, zero, suc, ◌+◌, ◌-◌, ◌%◌, min, List, [], ◌∷◌, ◌++◌, true, false, ◌&&◌, length, take, drop, leb, ltb, eqb, Result, Ok, Err}
 use Rattle.medium.specs.declared.geometry.Geometry.{Geometry}
-use Rattle.medium.specs.declared.fuse.Stored.{Stored}
-use Rattle.medium.specs.declared.fuse.Stored.TheVariants as stored
+use Rattle.medium.specs.declared.fuse.Fuse.{Fuse}
+use Rattle.medium.specs.declared.fuse.Stopped.{Stopped}
+use Rattle.medium.specs.Fuse.{Stored}
+use Rattle.medium.specs.Refusal.{refusal_number}
 use Rattle.medium.specs.Granularity.{pick, width_of, header}
 use Rattle.medium.specs.Geometry.{admit, fit_of}
-use Rattle.medium.specs.Operation.{Answer, done, refused, and_then, or_refuse, End, Op, ◌>>=◌, ◌>>◌, ask, give, test}
+use Rattle.medium.specs.Operation.{Answer, done, refused, and_then, or_refuse, Op, ◌>>=◌, ◌>>◌, ask, give, test}
 use Rattle.medium.specs.Medium.{part, write}
 use Rattle.objects.specs.declared.types.ObjectType.{ObjectType}
 use Rattle.objects.specs.declared.state.ObjectDataState.{ObjectDataState}
@@ -21,8 +23,6 @@ use Rattle.objects.specs.Info.{total_of}
 use Rattle.objects.specs.Payload.{payload_at}
 use Rattle.writer.specs.declared.writer.ObjectWriter.{ObjectWriter}
 use Rattle.writer.specs.declared.writer.Writing.{Writing}
-use Rattle.writer.specs.declared.writer.Wrote.{Wrote}
-use Rattle.writer.specs.declared.writer.Wrote.TheVariants as wrote
 
 -- ---- the value
 
@@ -44,11 +44,13 @@ spent_of w = record { object = w.object; cursor = w.cursor; tail = w.tail; held 
 
 -- what becomes of a writer w by a refusal: as it went in, or spent after 8
 abbrev pub kept_of : Stored → ObjectWriter → ObjectWriter → ObjectWriter
-kept_of (stored.Done f) w v = v
-kept_of (stored.Refused n f) w v = pick (eqb n 8) (spent_of w) w
+kept_of (Ok f) w v = v
+kept_of (Err s) w v = pick (eqb (refusal_number s.refusal) 8) (spent_of w) w
 
-abbrev pub back_of : ObjectWriter → Stored → Writing
-back_of w a = record { answer = a; writer = kept_of a w w }
+-- what a call made of w
+abbrev pub back_of : ObjectWriter → Result (ObjectWriter × Fuse) Stopped → Writing
+back_of w (Ok x) = record { answer = Ok x.1; writer = x.0 }
+back_of w (Err s) = record { answer = Err s; writer = kept_of (Err s) w w }
 
 abbrev pub with_header : ObjectWriter → ObjectHeader → ObjectWriter
 with_header w h = record { object = h; cursor = w.cursor; tail = w.tail; held = w.held; spent = w.spent }
@@ -185,14 +187,6 @@ delete g w = do
 -- ---- an object written whole: "a payload of L bytes takes 2+L+s units, under Word(4) 3 plus L/4 rounded up"
 
 -- done with the total size
-abbrev pub wrote_of : Stored → ℕ → Wrote
-wrote_of (stored.Done f) n = wrote.Done n f
-wrote_of (stored.Refused k f) n = wrote.Refused k f
-
-abbrev pub wrote_end : Wrote → List ℕ → End ℕ
-wrote_end (wrote.Done n f) i = record { answer = done n; fuse = f; state = i }
-wrote_end (wrote.Refused k f) i = record { answer = refused k; fuse = f; state = i }
-
 unfoldable pub write_to : Geometry → ObjectLocation → ObjectType → List ℕ → Op ℕ
 write_to g at t src = do
   w ← allocate g at t

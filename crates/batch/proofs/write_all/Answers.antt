@@ -1,32 +1,30 @@
-use mathlib.Core.Path.{refl, sym, ◌∙◌}
+use mathlib.Core.Path.{◌≡◌, refl, sym, ◌∙◌}
+use Prim.Native.Nat.{◌/◌}
+use lib.ListN.{length}
 use native.Mathlib.Omega.{arith}
-use borrow.Author.Rules.{rules}
-use Rattle.batch.proofs.Turns.{batch_passed, turn_on, turn-stop, turns_end, all-stop, all-on}
+use Rattle.objects.proofs.Tested.{kept_zero, tested_on, tested_stop}
+use Rattle.batch.specs.Batch.{per_record, write_all}
+use Rattle.batch.proofs.Turns.{batch_passed, turn_on, turn-stop, turns_end}
 use Rattle.batch.proofs.write_all.Goals as goal
 
-pub returns-then-bad-ne0 : goal.returns-then-bad-ne0
-returns-then-bad-ne0 c = sym (all-stop _ _ _ _ _ _ _ _ c.check-bad.ensures c.if-bad-ne0.true)
+pub returns-in-Err : goal.returns-in-Err
+unfolding write_all
+returns-in-Err c = sym (tested_stop _ _ _ _ _ c.check.ensures c.in-Err.ensures)
 
 pub overflow_cast-n : goal.overflow_cast-n
-overflow_cast-n c = omega (arith, batch_passed _ _ _ _ c.check-bad.ensures c.if-bad-ne0.false)
+overflow_cast-n c = omega (arith, batch_passed _ _ _ _ (sym (kept_zero _ _ _ c.in_default.ensures) ∙ c.check.ensures) refl)
 
 pub loop-i-init : goal.loop-i-init
-loop-i-init c = (omega arith, refl, all-on _ _ _ _ _ _ _ _ c.check-bad.ensures c.if-bad-ne0.false)
+unfolding write_all
+loop-i-init c = tested_on _ _ _ _ _ c.check.ensures c.in_default.ensures
 
-pub at-requires : goal.at-requires
-at-requires c = omega (arith, batch_passed _ _ _ _ c.check-bad.ensures c.if-bad-ne0.false)
-
-pub returns-in-Refused : goal.returns-in-Refused
-returns-in-Refused c = sym (c.loop-i.invariant.2 ∙ turn-stop _ _ _ _ _ _ _ _ _ (rw c.at.ensures at c.write_record-a.ensures) c.in-Refused.is (batch_passed _ _ _ _ c.check-bad.ensures c.if-bad-ne0.false).1 c.loop-i-test.true)
-
-pub overflow_add-i : goal.overflow_add-i
-overflow_add-i c = omega (arith, batch_passed _ _ _ _ c.check-bad.ensures c.if-bad-ne0.false)
-
-pub loop-i-smaller : goal.loop-i-smaller
-loop-i-smaller c = omega arith
+pub returns-in-Err-write_record : goal.returns-in-Err-write_record
+returns-in-Err-write_record c = sym (c.loop-i.invariant ∙ turn-stop _ _ _ _ _ _ _ _ _ (rw c.at.ensures at c.write_record.ensures) c.in-Err-write_record.is (batch_passed _ _ _ _ (sym (kept_zero _ _ _ c.in_default.ensures) ∙ c.check.ensures) refl).1 (omega arith))
 
 pub loop-i-preserved : goal.loop-i-preserved
-loop-i-preserved c = (omega arith, search rules, c.loop-i.invariant.2 ∙ turn_on _ _ _ _ _ _ _ _ _ (rw c.at.ensures at c.write_record-a.ensures) c.in-Done.is (batch_passed _ _ _ _ c.check-bad.ensures c.if-bad-ne0.false).1 c.loop-i-test.true)
+loop-i-preserved c = c.loop-i.invariant ∙ turn_on _ _ _ _ _ _ _ _ _ (rw c.at.ensures at c.write_record.ensures) c.in-Ok.is (batch_passed _ _ _ _ (sym (kept_zero _ _ _ c.in_default.ensures) ∙ c.check.ensures) refl).1 (omega arith)
 
 pub returns : goal.returns
-returns c = sym (c.loop-i.invariant.2 ∙ turns_end _ _ _ _ _ _ _ (batch_passed _ _ _ _ c.check-bad.ensures c.if-bad-ne0.false).1 c.loop-i-test.false)
+returns c =
+    let n : c.loop-i.i ≡ length c.args.records.now / per_record = omega arith in
+    rw (← n) (sym (c.loop-i.invariant ∙ turns_end _ _ _ _ _ _ _ (batch_passed _ _ _ _ (sym (kept_zero _ _ _ c.in_default.ensures) ∙ c.check.ensures) refl).1 (omega arith)))

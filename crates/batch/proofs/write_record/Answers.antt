@@ -1,12 +1,19 @@
-use mathlib.Core.Path.{sym, ◌∙◌}
-use Rattle.batch.proofs.Records.{range_stop, type-stop, typed}
+use mathlib.Core.Path.{◌≡◌, sym, ◌∙◌}
+use Prim.Native.Nat.{◌+◌, ◌-◌}
+use native.Mathlib.Omega.{arith}
+use Rattle.medium.proofs.Refusals.{passed}
+use Rattle.objects.proofs.Tested.{asked_on, asked_stop}
+use Rattle.batch.proofs.Records.{range_stop, in_range}
 use Rattle.batch.proofs.write_record.Goals as goal
 
 pub returns-then-payload-end : goal.returns-then-payload-end
-returns-then-payload-end c = sym (range_stop _ _ _ _ _ _ c.if-payload-end.true)
+returns-then-payload-end c = rw c.beside.ensures (sym (range_stop _ _ _ _ _ _ c.if-payload-end.true))
 
-pub returns-in_default : goal.returns-in_default
-returns-in_default c = rw (c.number.ensures, c.in_default.is) (sym (type-stop _ _ _ c.args.r _ _ c.if-payload-end.false (sym (rw c.in_default.is at c.of_number-of.ensures))))
+pub returns-in_err-t : goal.returns-in_err-t
+returns-in_err-t c = rw (passed _ _ c.from_residual.ensures) (sym (in_range _ _ _ c.args.r _ _ c.if-payload-end.false ∙ asked_stop _ _ _ _ _ c.try_from.ensures c.in_err-t.ensures))
 
 pub returns : goal.returns
-returns c = c.write_to.ensures ∙ sym (typed _ _ _ c.args.r _ _ c.if-payload-end.false (sym (rw c.in-Got.is at c.of_number-of.ensures)))
+returns c =
+    let r = c.args.r in
+    let n : r.start + r.length - r.start ≡ r.length = omega arith in
+    (rw n at c.write_to.ensures) ∙ sym (in_range _ _ _ r _ _ c.if-payload-end.false ∙ asked_on _ _ _ _ _ c.try_from.ensures c.in_ok-t.ensures)

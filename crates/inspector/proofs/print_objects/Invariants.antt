@@ -1,8 +1,5 @@
 use Prim.Native.Nat.{◌-◌}
 use Rattle.inspector.proofs.print_objects.Given as goal
 
-abbrev pub invariant-loop-h : goal.invariant-loop-h
-invariant-loop-h l = Unit {0}
-
 abbrev pub decreases-loop-h : goal.decreases-loop-h
 decreases-loop-h l = l.g.size - l.i.location.offset

@@ -1,12 +1,13 @@
 use mathlib.Core.Path.{sym, ◌∙◌}
-use Rattle.medium.proofs.Runs.{ask_on, ask_stop}
+use Rattle.medium.proofs.Refusals.{passed}
+use Rattle.objects.proofs.Tested.{heard_on, heard_stop}
 use Rattle.moving.specs.Moving.{chunk}
 use Rattle.moving.proofs.copy_by.Goals as goal
 
-pub returns-in_default : goal.returns-in_default
+pub returns-in_err-beside : goal.returns-in_err-beside
 unfolding chunk
-returns-in_default c = rw (c.number.ensures, c.in_default.is) (sym (ask_stop _ _ _ _ (sym (rw c.in_default.is at c.read-a.ensures.buffer_after))))
+returns-in_err-beside c = rw (passed _ _ c.from_residual.ensures) (sym (heard_stop _ _ _ _ _ _ c.read.ensures.buffer_after c.in_err-beside.ensures))
 
 pub returns : goal.returns
 unfolding chunk
-returns c = c.write.ensures.image_after ∙ sym (ask_on _ _ _ _ (sym (rw c.in-Done.is at c.read-a.ensures.buffer_after)))
+returns c = c.try_write.ensures ∙ sym (heard_on _ _ _ _ _ _ c.read.ensures.buffer_after c.in_ok-beside.ensures)

@@ -1,20 +1,26 @@
-use mathlib.Core.Path.{refl, sym, ◌∙◌}
-use Rattle.medium.proofs.Runs.{on, stop, ask_on, ask_stop, run_ask}
+use mathlib.Core.Path.{sym, ◌∙◌}
+use Rattle.medium.proofs.Refusals.{passed}
+use Rattle.medium.proofs.Runs.{on_with, stop_with, run_ask}
+use Rattle.objects.proofs.Tested.{asked_on, asked_stop}
 use Rattle.moving.specs.Moving.{copy_object}
-use Rattle.moving.proofs.Turns.{copy_whole}
 use Rattle.moving.proofs.copy_object.Goals as goal
 
-pub returns-in_default : goal.returns-in_default
+pub returns-in_err-src : goal.returns-in_err-src
 unfolding copy_object
-returns-in_default c = rw (c.number.ensures, c.in_default.is) (record { image_after = sym (ask_stop _ _ _ _ (sym (rw c.in_default.is at c.find_source-got.ensures.result_value))); header_value = refl })
+returns-in_err-src c = rw (passed _ _ c.from_residual.ensures) (sym (asked_stop _ _ _ _ _ c.find_source.ensures.result_value c.in_err-src.ensures))
 
-pub write_copy-r-requires : goal.write_copy-r-requires
-write_copy-r-requires c = rw c.in-Got.is at c.find_source-got.ensures.small_source
-
-pub returns-in_default-a : goal.returns-in_default-a
+pub returns-in_err-w1 : goal.returns-in_err-w1
 unfolding copy_object
-returns-in_default-a c = rw c.in_default-a.is (record { image_after = sym (ask_on _ _ _ _ (sym (rw c.in-Got.is at c.find_source-got.ensures.result_value)) ∙ copy_whole _ _ _ _ _ _ ∙ stop _ _ _ _ _ _ _ _ c.write_copy-r.ensures c.in_default-a.is); header_value = refl })
+returns-in_err-w1 c = rw (passed _ _ c.from_residual-in_err-w1.ensures) (sym (asked_on _ _ _ _ _ c.find_source.ensures.result_value c.in_ok-src.ensures ∙ stop_with _ _ _ _ _ _ c.try_allocate.ensures c.in_err-w1.was))
+
+pub returns-in_err-w2 : goal.returns-in_err-w2
+unfolding copy_object
+returns-in_err-w2 c = rw (passed _ _ c.from_residual-in_err-w2.ensures) (sym (asked_on _ _ _ _ _ c.find_source.ensures.result_value c.in_ok-src.ensures ∙ on_with _ _ _ _ _ _ c.try_allocate.ensures c.in_ok-w1.was ∙ stop_with _ _ _ _ _ _ (rw c.at-from.ensures.value at c.copy.ensures) c.in_err-w2.was))
+
+pub returns-in_err-w3 : goal.returns-in_err-w3
+unfolding copy_object
+returns-in_err-w3 c = rw (passed _ _ c.from_residual-in_err-w3.ensures) (sym (asked_on _ _ _ _ _ c.find_source.ensures.result_value c.in_ok-src.ensures ∙ on_with _ _ _ _ _ _ c.try_allocate.ensures c.in_ok-w1.was ∙ on_with _ _ _ _ _ _ (rw c.at-from.ensures.value at c.copy.ensures) c.in_ok-w2.was ∙ stop_with _ _ _ _ _ _ c.try_finalize.ensures c.in_err-w3.was))
 
 pub returns : goal.returns
 unfolding copy_object
-returns c = rw c.in-Done.is (record { image_after = sym (ask_on _ _ _ _ (sym (rw c.in-Got.is at c.find_source-got.ensures.result_value)) ∙ copy_whole _ _ _ _ _ _ ∙ on _ _ _ _ _ _ _ _ c.write_copy-r.ensures c.in-Done.is ∙ run_ask _ _ _); header_value = refl })
+returns c = sym (asked_on _ _ _ _ _ c.find_source.ensures.result_value c.in_ok-src.ensures ∙ on_with _ _ _ _ _ _ c.try_allocate.ensures c.in_ok-w1.was ∙ on_with _ _ _ _ _ _ (rw c.at-from.ensures.value at c.copy.ensures) c.in_ok-w2.was ∙ on_with _ _ _ _ _ _ c.try_finalize.ensures c.in_ok-w3.was ∙ run_ask _ _ _)

@@ -1,27 +1,26 @@
-use borrow.Author.Rules.{rules}
-use mathlib.Core.Path.{refl, sym, ◌∙◌}
+use mathlib.Core.Path.{◌≡◌, sym, ◌∙◌}
 use native.Mathlib.Omega.{arith}
+use Prim.Native.Nat.{◌-◌}
+use Rattle.medium.proofs.Refusals.{passed}
+use Rattle.objects.proofs.Tested.{tested_on, tested_stop}
+use Rattle.blocks.specs.Format.{format_storage}
 use Rattle.medium.proofs.Runs.{on, stop}
-use Rattle.blocks.proofs.Formats.{format_step, format_end, storage_stop, storage_on}
+use Rattle.blocks.proofs.Formats.{format_step, format_end}
 use Rattle.blocks.proofs.format.format_storage.Goals as goal
 
-pub returns-then-bad-ne0 : goal.returns-then-bad-ne0
-returns-then-bad-ne0 c = sym (storage_stop _ _ _ _ c.check-bad.ensures c.if-bad-ne0.true)
+pub returns-in_err-beside : goal.returns-in_err-beside
+unfolding format_storage
+returns-in_err-beside c = rw (passed _ _ c.from_residual.ensures) (sym (tested_stop _ _ _ _ _ c.check.ensures c.in_err-beside.ensures))
 
 pub loop-b-init : goal.loop-b-init
-loop-b-init c = (omega arith, refl, storage_on _ _ _ _ c.check-bad.ensures c.if-bad-ne0.false)
+unfolding format_storage
+loop-b-init c = let m : c.args.g.count - 0 ≡ c.args.g.count = omega arith in rw m (tested_on _ _ _ _ _ c.check.ensures c.in_ok-beside.ensures)
 
-pub returns-in_default : goal.returns-in_default
-returns-in_default c = rw c.in_default.is (sym (c.loop-b.invariant.2 ∙ format_step _ _ _ _ _ c.loop-b-test.true ∙ stop _ _ _ _ _ _ _ _ c.format_block-a.ensures c.in_default.is))
-
-pub overflow_add-b : goal.overflow_add-b
-overflow_add-b c = omega arith
-
-pub loop-b-smaller : goal.loop-b-smaller
-loop-b-smaller c = omega arith
+pub returns-in_err-fuse : goal.returns-in_err-fuse
+returns-in_err-fuse c = rw (passed _ _ c.from_residual-in_err-fuse.ensures) (sym (c.loop-b.invariant ∙ format_step _ _ _ _ _ (omega arith) ∙ stop _ _ _ _ _ _ tt c.args.f c.format_block.ensures c.in_err-fuse.was))
 
 pub loop-b-preserved : goal.loop-b-preserved
-loop-b-preserved c = (omega arith, search rules, c.loop-b.invariant.2 ∙ format_step _ _ _ _ _ c.loop-b-test.true ∙ on _ _ _ _ _ _ _ _ c.format_block-a.ensures c.in-Done.is)
+loop-b-preserved c = c.loop-b.invariant ∙ format_step _ _ _ _ _ (omega arith) ∙ on _ _ _ _ _ _ _ _ c.format_block.ensures c.in_ok-fuse.was
 
 pub returns : goal.returns
-returns c = sym (c.loop-b.invariant.2 ∙ format_end _ _ _ _ _ c.loop-b-test.false)
+returns c = sym (c.loop-b.invariant ∙ format_end _ _ _ _ _ (omega arith))

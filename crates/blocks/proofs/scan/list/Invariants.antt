@@ -5,8 +5,8 @@ use Rattle.objects.specs.Listing.{listing, list_from}
 use Rattle.blocks.specs.Scan.{listed}
 use Rattle.blocks.proofs.scan.list.Given as goal
 
-abbrev pub invariant-loop-k : goal.invariant-loop-k
-invariant-loop-k l = listed l.h false (listing l.g l.block l.image) ≡ listed l.h l.allocated (list_from l.g.size l.g l.i l.image)
+abbrev pub invariant-loop-o : goal.invariant-loop-o
+invariant-loop-o l = listed l.h false (listing l.g l.block l.image) ≡ listed l.h l.allocated (list_from l.g.size l.g l.i l.image)
 
-abbrev pub decreases-loop-k : goal.decreases-loop-k
-decreases-loop-k l = l.g.size - l.i.location.offset
+abbrev pub decreases-loop-o : goal.decreases-loop-o
+decreases-loop-o l = l.g.size - l.i.location.offset

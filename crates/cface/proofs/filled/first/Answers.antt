@@ -6,8 +6,8 @@ use Rattle.cface.proofs.filled.first.Goals as goal
 pub slice_bounds-into_bytes-end-2 : goal.slice_bounds-into_bytes-end-2
 slice_bounds-into_bytes-end-2 c = sym (length-take-le _ _ c.requires)
 
-pub returns-in_default : goal.returns-in_default
-returns-in_default c = rw (c.number.ensures, c.in_default.is) (first_none _ c.args.n _ _ c.args.bytes.now (sym (rw (length-take-le _ _ c.requires, c.in_default.is) at c.into_bytes-a.ensures.buffer_after)) (rw c.in_default.is at c.into_bytes-a.ensures.buffer_after_2))
+pub returns-in-Ok : goal.returns-in-Ok
+returns-in-Ok c = let d = sym (rw (length-take-le _ _ c.requires, c.in-Ok.is) at c.into_bytes.ensures.buffer_after) in first_told _ _ _ _ c.args.bytes.now d (into_length _ _ _ _ d)
 
-pub returns : goal.returns
-returns c = let d = sym (rw (length-take-le _ _ c.requires, c.in-Done.is) at c.into_bytes-a.ensures.buffer_after) in first_told _ _ _ _ c.args.bytes.now d (into_length _ _ _ _ d)
+pub returns-in-Err : goal.returns-in-Err
+returns-in-Err c = rw c.number.ensures (first_none _ c.args.n _ _ c.args.bytes.now (sym (rw (length-take-le _ _ c.requires, c.in-Err.is) at c.into_bytes.ensures.buffer_after)) (rw c.in-Err.is at c.into_bytes.ensures.buffer_after_2))

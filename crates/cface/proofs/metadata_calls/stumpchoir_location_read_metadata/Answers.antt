@@ -2,7 +2,7 @@ use Rattle.cface.proofs.Bounds.{metadata_at_small}
 use Rattle.cface.proofs.metadata_calls.stumpchoir_location_read_metadata.Goals as goal
 
 pub hand_metadata-requires : goal.hand_metadata-requires
-hand_metadata-requires c = metadata_at_small _ _ _ c.read_at-a.result c.read_at-a.ensures
+hand_metadata-requires c = metadata_at_small _ _ _ _ c.read_at-a.ensures
 
 pub returns : goal.returns
 returns c = rw (← c.geometry-g.ensures, ← c.read_at-a.ensures) c.hand_metadata.ensures

@@ -2,8 +2,8 @@ use mathlib.Core.Path.{sym}
 use Rattle.crossing.proofs.Crossings.{asked_told, none_told}
 use Rattle.cface.proofs.writer_calls.stumpchoir_writer_payload_size.Goals as goal
 
-pub returns-in_default : goal.returns-in_default
-returns-in_default c = rw (← c.geometry-g.ensures) (none_told _ _ _ _ _ _ (sym (rw c.in_default.is at c.writer_of-of.ensures)) (rw c.in_default.is at c.number.ensures) c.refusal_alone.ensures)
+pub returns-in-Err : goal.returns-in-Err
+returns-in-Err c = rw (← c.geometry-g.ensures) (none_told _ _ _ _ _ _ (sym c.in-Err.ensures) (rw c.number.ensures at c.refusal_alone.ensures))
 
 pub returns : goal.returns
-returns c = rw (← c.geometry-g.ensures) (asked_told _ _ _ _ _ _ (sym (rw c.in-Done.is at c.writer_of-of.ensures)) c.payload_size-a.ensures c.hand_count.ensures)
+returns c = rw (← c.geometry-g.ensures) (asked_told _ _ _ _ _ _ (sym c.in-Ok.ensures) c.payload_size-a.ensures c.hand.ensures)

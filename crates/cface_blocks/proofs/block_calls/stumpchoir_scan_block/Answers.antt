@@ -1,4 +1,4 @@
 use Rattle.cface_blocks.proofs.block_calls.stumpchoir_scan_block.Goals as goal
 
 pub returns : goal.returns
-returns c = rw (← c.geometry-g.ensures, ← c.scan_block-a.ensures) c.hand_record.ensures
+returns c = rw (← c.geometry-g.ensures, ← c.scan_block-a.ensures) c.hand.ensures

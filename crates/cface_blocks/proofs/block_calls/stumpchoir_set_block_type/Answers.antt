@@ -2,8 +2,8 @@ use mathlib.Core.Path.{sym}
 use Rattle.crossing.proofs.Crossings.{given_stored, none_stored}
 use Rattle.cface_blocks.proofs.block_calls.stumpchoir_set_block_type.Goals as goal
 
-pub returns-in_default : goal.returns-in_default
-returns-in_default c = rw (← c.geometry-g.ensures) (none_stored _ _ _ _ _ _ (sym (rw c.in_default.is at c.type_of-of.ensures)) (rw c.in_default.is at c.number.ensures) c.refusal.ensures)
+pub returns-in-Err : goal.returns-in-Err
+returns-in-Err c = rw (← c.geometry-g.ensures) (none_stored _ _ _ _ _ _ (sym c.in-Err.ensures) (rw c.number.ensures at c.refusal.ensures))
 
 pub returns : goal.returns
-returns c = rw (← c.geometry-g.ensures) (given_stored _ _ _ _ _ _ _ _ _ _ _ _ (sym (rw c.in-Got.is at c.type_of-of.ensures)) c.fuse_of-f.ensures c.set_block_type-a.ensures c.hand_back.ensures.value c.hand_back.ensures.units_after)
+returns c = rw (← c.geometry-g.ensures) (given_stored _ _ _ _ _ _ _ _ _ _ _ _ (sym c.in-Ok.ensures) c.fuse_of-f.ensures c.set_block_type-a.ensures c.hand_back.ensures.value c.hand_back.ensures.units_after)

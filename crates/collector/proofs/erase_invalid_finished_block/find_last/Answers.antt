@@ -1,11 +1,18 @@
-use mathlib.Core.Path.{sym, ◌∙◌}
-use Rattle.collector.proofs.Stops.{no_object}
-use Rattle.collector.proofs.Findings.{last_stopped, last_not}
-use borrow.Enum.Refused.{opened}
+use mathlib.Core.Logic.{inl, inr}
+use mathlib.Core.Path.{sym}
+use Rattle.medium.proofs.Refusals.{passed}
+use Rattle.objects.specs.Listing.{free_place, block_end}
+use Rattle.collector.proofs.Findings.{last_stopped, last_broken, last_not}
 use Rattle.collector.proofs.erase_invalid_finished_block.find_last.Goals as goal
 
-pub returns-in_default : goal.returns-in_default
-returns-in_default c = c.at_stop.ensures ∙ sym (last_stopped _ _ c.requires _ _ c.next-n.ensures (no_object c.next-n.result (opened c.in_default.in_default-own.keys2)))
+pub returns-in_err-n : goal.returns-in_err-n
+returns-in_err-n c = rw (passed _ _ c.from_residual.ensures) (sym (last_broken _ _ c.requires _ _ c.in_err-n.ensures))
 
-pub returns : goal.returns
-returns c = sym (last_not _ _ c.requires _ _ _ (rw c.in-Object.is at c.next-n.ensures))
+pub returns-in-Object : goal.returns-in-Object
+returns-in-Object c = sym (last_not _ _ c.requires _ _ _ (rw c.in-Object.is at c.in_ok-n.ensures))
+
+pub returns-in-Free : goal.returns-in-Free
+returns-in-Free c = elim c.in-Free.is [
+  | inl p ↦ sym (last_stopped _ _ c.requires _ free_place tt (rw p at c.in_ok-n.ensures))
+  | inr p ↦ sym (last_stopped _ _ c.requires _ block_end tt (rw p at c.in_ok-n.ensures))
+]

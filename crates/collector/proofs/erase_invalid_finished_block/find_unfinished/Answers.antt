@@ -1,27 +1,31 @@
-use mathlib.Core.Path.{sym, ◌∙◌}
+use mathlib.Core.Path.{refl, sym, ◌∙◌}
 use native.Mathlib.Omega.{arith}
+use borrow.Author.Tests.{eqb-true, eqb-false}
+use Rattle.medium.proofs.Refusals.{passed}
 use Rattle.objects.specs.Listing.{listing}
 use Rattle.objects.proofs.Listing.{next_moves, header_some}
-use Rattle.collector.proofs.Stops.{no_object}
-use Rattle.collector.proofs.Findings.{unfinished_stopped, unfinished-here, unfinished-not, unfinished-more}
-use borrow.Enum.Refused.{opened}
+use Rattle.blocks.proofs.Scans.{no_object}
+use Rattle.collector.proofs.Findings.{unfinished_stopped, unfinished_broken, unfinished-here, unfinished-not, unfinished-more}
 use Rattle.collector.proofs.erase_invalid_finished_block.find_unfinished.Goals as goal
 
 pub loop-h-init : goal.loop-h-init
 unfolding listing
 loop-h-init c = rw c.new-i.ensures
 
-pub returns-in_default : goal.returns-in_default
-returns-in_default c = c.at_stop.ensures ∙ sym (c.loop-h.invariant ∙ unfinished_stopped _ _ c.requires _ _ c.next-n.ensures (no_object c.next-n.result (opened c.in_default.in_default-own.keys2)))
+pub returns-in_err-h : goal.returns-in_err-h
+returns-in_err-h c = rw (passed _ _ c.from_residual.ensures) (sym (c.loop-h.invariant ∙ unfinished_broken _ _ c.requires _ _ c.in_err-h.ensures))
 
-pub returns-then-rank-eq1 : goal.returns-then-rank-eq1
-returns-then-rank-eq1 c = c.find_last.ensures ∙ sym (c.loop-h.invariant ∙ unfinished-here _ _ c.requires _ _ _ (rw c.in-Object.is at c.next-n.ensures) _ c.rank-rank.ensures c.if-rank-eq1.true)
+pub returns-then-is : goal.returns-then-is
+returns-then-is c = c.find_last.ensures ∙ sym (c.loop-h.invariant ∙ unfinished-here _ _ c.requires _ _ _ (rw c.in-Object.is at c.in_ok-h.ensures) _ refl (eqb-true _ _ (sym c.if-is.ensures)))
 
-pub returns-then-rank-ne3 : goal.returns-then-rank-ne3
-returns-then-rank-ne3 c = sym (c.loop-h.invariant ∙ unfinished-not _ _ c.requires _ _ _ (rw c.in-Object.is at c.next-n.ensures) _ c.rank-rank.ensures c.if-rank-eq1.false c.if-rank-ne3.true)
+pub returns-then-not-is : goal.returns-then-not-is
+returns-then-not-is c = sym (c.loop-h.invariant ∙ unfinished-not _ _ c.requires _ _ _ (rw c.in-Object.is at c.in_ok-h.ensures) _ refl (eqb-false _ _ (sym c.if-is.ensures)) (eqb-false _ _ (sym c.if-not-is.ensures)))
 
 pub loop-h-smaller : goal.loop-h-smaller
-loop-h-smaller c = let v = next_moves _ _ _ _ _ (sym (rw c.in-Object.is at c.next-n.ensures)) in omega (arith, v.forward, v.within, header_some c.args.g.granularity c.args.g.s)
+loop-h-smaller c = let v = next_moves _ _ _ _ _ (sym (rw c.in-Object.is at c.in_ok-h.ensures)) in omega (arith, v.forward, v.within, header_some c.args.g.granularity c.args.g.s)
 
 pub loop-h-preserved : goal.loop-h-preserved
-loop-h-preserved c = c.loop-h.invariant ∙ unfinished-more _ _ c.requires _ _ _ (rw c.in-Object.is at c.next-n.ensures) _ c.rank-rank.ensures c.if-rank-ne3.false
+loop-h-preserved c = c.loop-h.invariant ∙ unfinished-more _ _ c.requires _ _ _ (rw c.in-Object.is at c.in_ok-h.ensures) _ refl (eqb-true _ _ (sym c.if-not-is.ensures))
+
+pub returns : goal.returns
+returns c = let n = no_object _ c.in_default.not-Object in sym (c.loop-h.invariant ∙ unfinished_stopped _ _ c.requires _ _ n.stops (sym n.is ∙ c.in_ok-h.ensures))

@@ -1,10 +1,7 @@
 use Rattle.crossing.specs.Crossing.{geometry_in}
+use Rattle.crossing.proofs.Crossings.{or_none_of}
 use Rattle.crossing.proofs.call.geometry.Goals as goal
-
-pub returns-in_default : goal.returns-in_default
-unfolding geometry_in
-returns-in_default c = rw (← c.of_numbers-read.ensures, c.in_default.is)
 
 pub returns : goal.returns
 unfolding geometry_in
-returns c = rw (← c.of_numbers-read.ensures, c.in-Got.is)
+returns c = rw (c.unwrap_or.ensures, ← c.try_from.ensures) (or_none_of c.try_from.result)

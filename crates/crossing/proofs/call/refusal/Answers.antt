@@ -1,9 +1,10 @@
-use mathlib.Core.Path.{sym}
+use mathlib.Core.Path.{refl, sym}
 use Rattle.medium.proofs.Checks.{admit_pass, admit_stop}
+use Rattle.medium.proofs.Refusals.{not_done}
 use Rattle.crossing.proofs.call.refusal.Goals as goal
 
-pub returns-then-bad-ne0 : goal.returns-then-bad-ne0
-returns-then-bad-ne0 c = admit_stop _ _ _ _ c.check-bad.ensures c.if-bad-ne0.true
+pub returns-in-Ok : goal.returns-in-Ok
+returns-in-Ok c = sym (admit_pass _ _ _ _ c.in-Ok.ensures refl)
 
-pub returns : goal.returns
-returns c = sym (admit_pass _ _ _ _ c.check-bad.ensures c.if-bad-ne0.false)
+pub returns-in-Err : goal.returns-in-Err
+returns-in-Err c = rw c.number.ensures (admit_stop _ _ _ _ c.in-Err.ensures (not_done _))

@@ -1,8 +1,10 @@
+use mathlib.Core.Path.{refl}
+use Rattle.medium.proofs.Refusals.{not_done}
 use Rattle.crossing.proofs.Crossings.{alone_pass, alone_stop}
 use Rattle.crossing.proofs.call.refusal_alone.Goals as goal
 
-pub returns-then-bad-ne0 : goal.returns-then-bad-ne0
-returns-then-bad-ne0 c = alone_stop _ _ _ c.fit-bad.ensures c.if-bad-ne0.true
+pub returns-in-Ok : goal.returns-in-Ok
+returns-in-Ok c = alone_pass _ _ _ c.in-Ok.ensures refl
 
-pub returns : goal.returns
-returns c = alone_pass _ _ _ c.fit-bad.ensures c.if-bad-ne0.false
+pub returns-in-Err : goal.returns-in-Err
+returns-in-Err c = rw c.number.ensures (alone_stop _ _ _ c.in-Err.ensures (not_done _))

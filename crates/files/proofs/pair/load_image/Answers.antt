@@ -1,16 +1,6 @@
-use mathlib.Core.Path.{refl, sym, ◌∙◌}
-use mathlib.Core.Logic.{inr}
+use Rattle.medium.proofs.Refusals.{not_done, passed}
 use Rattle.files.proofs.Refusals.{check_refuses}
 use Rattle.files.proofs.pair.load_image.Goals as goal
 
-pub returns-then-bad-ne0 : goal.returns-then-bad-ne0
-returns-then-bad-ne0 c = check_refuses _ _ _ c.check-bad.ensures c.if-bad-ne0.true
-
-pub returns-in-Failed : goal.returns-in-Failed
-returns-in-Failed c = tt
-
-pub returns-in-TooLong : goal.returns-in-TooLong
-returns-in-TooLong c = inr refl
-
-pub returns-else-bad-ne0 : goal.returns-else-bad-ne0
-returns-else-bad-ne0 c = (refl, rw c.in-Bytes.is at c.read-got.ensures, sym c.check-bad.ensures ∙ c.if-bad-ne0.false)
+pub returns-in_err-check : goal.returns-in_err-check
+returns-in_err-check c = rw (passed _ _ c.from_residual.ensures) (check_refuses _ _ _ c.in_err-check.ensures (not_done _))

@@ -1,46 +1,26 @@
 use mathlib.Core.Path.{sym, ◌∙◌}
 use native.Mathlib.Omega.{arith}
-use Rattle.lines.proofs.Arguments.{none, some, low, high, large, step, whole}
+use borrow.Author.Tests.{eqb-true, eqb-false}
+use Rattle.lines.proofs.Arguments.{none, some, no_digit, large, step, whole}
 use Rattle.lines.proofs.argument.number_of.Goals as goal
 
-pub returns-then-text-eq0 : goal.returns-then-text-eq0
-returns-then-text-eq0 c = sym (none _ c.if-text-eq0.true)
+pub returns-then-is_empty : goal.returns-then-is_empty
+returns-then-is_empty c = sym (none _ (eqb-true _ _ (sym c.is_empty.ensures ∙ c.if-is_empty.true)))
 
-pub loop-i-init : goal.loop-i-init
-loop-i-init c = (omega arith, omega arith, some _ (omega arith))
+pub loop-b-init : goal.loop-b-init
+loop-b-init c = let n = eqb-false _ _ (sym c.is_empty.ensures ∙ c.if-is_empty.false) in some _ (omega arith)
 
-pub bounds-text-i : goal.bounds-text-i
-bounds-text-i c = omega arith
+pub returns-then-not-is_ascii_digit : goal.returns-then-not-is_ascii_digit
+returns-then-not-is_ascii_digit c = sym (c.loop-b.invariant ∙ no_digit _ _ _ c.loop-b-test.true c.if-not-is_ascii_digit.ensures.cases)
 
-pub returns-then-b-lt48 : goal.returns-then-b-lt48
-returns-then-b-lt48 c = sym (c.loop-i.invariant.2 ∙ low _ _ _ c.loop-i-test.true c.if-b-lt48.true)
+pub returns-in_err-checked_mul : goal.returns-in_err-checked_mul
+returns-in_err-checked_mul c = rw c.from_residual.ensures (sym (c.loop-b.invariant ∙ large _ _ _ c.loop-b-test.true c.if-not-is_ascii_digit.ensures.cases (omega (arith, c.in_err-checked_mul.ensures))))
 
-pub returns-then-b-gt57 : goal.returns-then-b-gt57
-returns-then-b-gt57 c = sym (c.loop-i.invariant.2 ∙ high _ _ _ c.loop-i-test.true c.if-b-lt48.false c.if-b-gt57.true)
+pub returns-in_err-n : goal.returns-in_err-n
+returns-in_err-n c = rw c.from_residual-in_err-n.ensures (sym (c.loop-b.invariant ∙ large _ _ _ c.loop-b-test.true c.if-not-is_ascii_digit.ensures.cases (omega (arith, c.in_err-n.ensures, c.in_ok-checked_mul.ensures))))
 
-pub overflow_mul-n : goal.overflow_mul-n
-overflow_mul-n c = omega arith
-
-pub overflow_cast-n : goal.overflow_cast-n
-overflow_cast-n c = omega arith
-
-pub overflow_add-n : goal.overflow_add-n
-overflow_add-n c = omega arith
-
-pub returns-then-n-gt4294967295 : goal.returns-then-n-gt4294967295
-returns-then-n-gt4294967295 c = sym (c.loop-i.invariant.2 ∙ large _ _ _ c.loop-i-test.true c.if-b-lt48.false c.if-b-gt57.false c.if-n-gt4294967295.true)
-
-pub overflow_add-i : goal.overflow_add-i
-overflow_add-i c = omega arith
-
-pub loop-i-smaller : goal.loop-i-smaller
-loop-i-smaller c = omega arith
-
-pub loop-i-preserved : goal.loop-i-preserved
-loop-i-preserved c = (omega arith, omega arith, c.loop-i.invariant.2 ∙ step _ _ _ c.loop-i-test.true c.if-b-lt48.false c.if-b-gt57.false c.if-n-gt4294967295.false)
-
-pub overflow_cast-result : goal.overflow_cast-result
-overflow_cast-result c = omega arith
+pub loop-b-preserved : goal.loop-b-preserved
+loop-b-preserved c = rw (c.in_ok-n.ensures.1, c.in_ok-checked_mul.ensures.1) (c.loop-b.invariant ∙ step _ _ _ c.loop-b-test.true c.if-not-is_ascii_digit.ensures.cases (omega (arith, c.in_ok-n.ensures, c.in_ok-checked_mul.ensures)))
 
 pub returns : goal.returns
-returns c = sym (c.loop-i.invariant.2 ∙ whole _ _ _ c.loop-i-test.false)
+returns c = sym (c.loop-b.invariant ∙ whole _ _ _ c.loop-b-test.false)

@@ -1,7 +1,5 @@
 use mathlib.Core.Bool.{and-false}
-use native.Mathlib.Nat.{mul-le-mul}
 use native.Mathlib.Omega.{arith}
-use mir.Facts.{Fits-le, Fits-lit}
 use borrow.Author.Tests.{lt-leb, ne_eqb}
 use Rattle.medium.specs.Geometry.{geometry_ok, fit_of}
 use Rattle.medium.proofs.Checks.{geometry_yes}
@@ -30,9 +28,6 @@ returns-then-count-lt1 c = simp (lt-leb _ _ c.if-count-lt1.true, and-false)
 pub returns-then-limit-count : goal.returns-then-limit-count
 unfolding geometry_ok fit_of
 returns-then-limit-count c = simp (lt-leb _ _ (rw c.limit-2.ensures at c.if-limit-count.true), and-false)
-
-pub overflow_mul-total : goal.overflow_mul-total
-overflow_mul-total c = Fits-le (mul-le-mul {n₂ = 65536} {m₂ = 4294967295} (omega arith) (omega arith)) (Fits-lit tt)
 
 pub returns-then-total-gt16777216 : goal.returns-then-total-gt16777216
 unfolding geometry_ok fit_of

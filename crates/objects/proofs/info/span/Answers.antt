@@ -7,6 +7,3 @@ use Rattle.objects.proofs.info.span.Goals as goal
 pub overflow_cast-total : goal.overflow_cast-total
 unfolding total_of
 overflow_cast-total c = let h = header_small c.args.k c.args.s in let p = payload_le c.args.s c.args.h in omega (arith, c.total.ensures.value, c.requires)
-
-pub returns : goal.returns
-returns c = rw (c.align.ensures, c.total.ensures.value)

@@ -1,41 +1,33 @@
-use mathlib.Core.Path.{sym, ◌∙◌}
+-- What is left of the path is compared with what stands from `at` on.
+use mathlib.Core.Path.{refl, sym, ap, ◌∙◌}
+use Prim.Native.Nat.{ℕ, min}
+use lib.ListN.{length, length-append}
 use native.Mathlib.Omega.{arith}
+use Rattle.std.specs.Slice.Iter.{chunks_rest}
+use Rattle.medium.proofs.Refusals.{not_done, passed}
 use Rattle.medium.proofs.Ranges.{read_lent, read_refused}
-use Rattle.storage.proofs.Looking.{turns_start, turns_end, turn-refused, turn-differs, turn-same}
+use Rattle.storage.proofs.Looking.{turns_end, turn-refused, turn-differs, turn-same}
 use Rattle.storage.proofs.lookup.is_same.Goals as goal
 
-pub loop-i-init : goal.loop-i-init
-loop-i-init c = (omega arith, turns_start c.args.g c.args.h.location.block c.args.image.now c.at-at.result c.args.path.now)
+pub returns-in_err-reach : goal.returns-in_err-reach
+returns-in_err-reach c =
+    let s = c.in-Some.ensures.steps in
+    rw (passed _ _ c.from_residual.ensures, ← c.at-at.ensures.value)
+    (sym (c.loop-turn.invariant.2 ∙ turn-refused _ _ _ _ _ _ _ s.1.0 (s.1.1 ∙ ap (λ (k : ℕ). min k (length (chunks_rest c.loop-turn.turn-iterator))) c.loop-turn.invariant.0) s.1.2 _ (read_refused _ _ _ _ c.args.image.now _ c.in_err-reach.ensures (not_done _))))
 
-pub overflow_sub-path : goal.overflow_sub-path
-overflow_sub-path c = omega (arith, c.loop-i-test.true)
+pub returns-then-not-is_equal : goal.returns-then-not-is_equal
+returns-then-not-is_equal c =
+    let s = c.in-Some.ensures.steps in
+    rw (← c.at-at.ensures.value)
+    (sym (c.loop-turn.invariant.2 ∙ turn-differs _ _ _ _ _ _ _ s.1.0 (s.1.1 ∙ ap (λ (k : ℕ). min k (length (chunks_rest c.loop-turn.turn-iterator))) c.loop-turn.invariant.0) s.1.2 _ (read_lent _ _ _ _ c.args.image.now _ c.in_ok-reach.ensures _ c.lend-bytes.ensures refl) (sym c.if-not-is_equal.ensures)))
 
-pub overflow_add-at : goal.overflow_add-at
-overflow_add-at c = omega (arith, c.at-at.ensures.upper_bound, c.requires, c.loop-i-test.true)
-
-pub returns-then-bad-ne0 : goal.returns-then-bad-ne0
-returns-then-bad-ne0 c = rw (← c.at-at.ensures.value) (sym (c.loop-i.invariant.1 ∙ turn-refused c.args.g c.args.h.location.block c.args.image.now c.at-at.result c.args.path.now c.loop-i.i c.least-n.result c.loop-i-test.true c.least-n.ensures _ (read_refused _ _ _ _ c.args.image.now _ c.reach-bad.ensures c.if-bad-ne0.true)))
-
-pub overflow_add-at-in-loop-i : goal.overflow_add-at-in-loop-i
-overflow_add-at-in-loop-i c = omega (arith, c.at-at.ensures.upper_bound, c.requires, c.loop-i-test.true)
-
-pub overflow_add-i : goal.overflow_add-i
-overflow_add-i c = omega (arith, c.least-n.ensures, c.requires, c.loop-i-test.true)
-
-pub slice_bounds-is_equal-count : goal.slice_bounds-is_equal-count
-slice_bounds-is_equal-count c = omega arith
-
-pub overflow_add-i-then-is_equal : goal.overflow_add-i-then-is_equal
-overflow_add-i-then-is_equal c = omega (arith, c.least-n.ensures, c.requires, c.loop-i-test.true)
-
-pub loop-i-smaller : goal.loop-i-smaller
-loop-i-smaller c = omega (arith, c.least-n.ensures, c.loop-i-test.true)
-
-pub loop-i-preserved : goal.loop-i-preserved
-loop-i-preserved c = (omega (arith, c.least-n.ensures, c.loop-i-test.true), c.loop-i.invariant.1 ∙ turn-same c.args.g c.args.h.location.block c.args.image.now c.at-at.result c.args.path.now c.loop-i.i c.least-n.result c.loop-i-test.true c.least-n.ensures _ (read_lent _ _ _ _ c.args.image.now _ c.reach-bad.ensures _ c.lend-turn.ensures c.if-bad-ne0.false) (sym c.is_equal.ensures ∙ c.if-is_equal.true))
-
-pub returns-in-loop-i : goal.returns-in-loop-i
-returns-in-loop-i c = rw (← c.at-at.ensures.value) (sym (c.loop-i.invariant.1 ∙ turn-differs c.args.g c.args.h.location.block c.args.image.now c.at-at.result c.args.path.now c.loop-i.i c.least-n.result c.loop-i-test.true c.least-n.ensures _ (read_lent _ _ _ _ c.args.image.now _ c.reach-bad.ensures _ c.lend-turn.ensures c.if-bad-ne0.false) (sym c.is_equal.ensures ∙ c.if-is_equal.false)))
+pub loop-turn-preserved : goal.loop-turn-preserved
+loop-turn-preserved c =
+    let s = c.in-Some.ensures.steps in (
+      s.0 ∙ c.loop-turn.invariant.0,
+      omega (arith, c.loop-turn.invariant.1, ap length s.1.0, length-append c.in-Some.turn.now (chunks_rest c.next.new.self)),
+      c.loop-turn.invariant.2 ∙ turn-same _ _ _ _ _ _ _ s.1.0 (s.1.1 ∙ ap (λ (k : ℕ). min k (length (chunks_rest c.loop-turn.turn-iterator))) c.loop-turn.invariant.0) s.1.2 _ (read_lent _ _ _ _ c.args.image.now _ c.in_ok-reach.ensures _ c.lend-bytes.ensures refl) (sym c.if-not-is_equal.ensures),
+    )
 
 pub returns : goal.returns
-returns c = rw (← c.at-at.ensures.value) (sym (c.loop-i.invariant.1 ∙ turns_end c.args.g c.args.h.location.block c.args.image.now c.at-at.result c.args.path.now c.loop-i.i c.loop-i-test.false))
+returns c = rw (← c.at-at.ensures.value) (sym (c.loop-turn.invariant.2 ∙ turns_end _ _ _ _ _ c.in-None.ensures.steps.1.0))

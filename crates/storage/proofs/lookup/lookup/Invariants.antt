@@ -6,8 +6,8 @@ use Rattle.storage.specs.Lookup as def
 use Rattle.storage.proofs.Looking.{look_from}
 use Rattle.storage.proofs.lookup.lookup.Given as goal
 
-abbrev pub invariant-loop-k : goal.invariant-loop-k
-invariant-loop-k l = def.lookup l.g l.path l.hash l.image ≡ look_from l.g l.path l.hash l.image l.v
+abbrev pub invariant-loop-h : goal.invariant-loop-h
+invariant-loop-h l = def.lookup l.g l.path l.hash l.image ≡ look_from l.g l.path l.hash l.image l.v
 
-abbrev pub decreases-loop-k : goal.decreases-loop-k
-decreases-loop-k l = length (tour_from l.g Metadata l.v l.image).objects
+abbrev pub decreases-loop-h : goal.decreases-loop-h
+decreases-loop-h l = length (tour_from l.g Metadata l.v l.image).objects

@@ -1,14 +1,8 @@
-use mathlib.Core.Path.{sym, ap, ◌∙◌}
+use mathlib.Core.Path.{sym, ◌∙◌}
 use native.Mathlib.Omega.{arith}
 use lib.ListN.{length-set}
-use Rattle.sweep.specs.declared.slots.Slot.{Slot}
-use Rattle.sweep.specs.Slots.{take_by}
-use Rattle.sweep.proofs.MetKeys.{free_room, take_none}
-use borrow.Enum.Refused.{opened}
+use Rattle.sweep.proofs.MetKeys.{free_room}
 use Rattle.sweep.proofs.slots.meet.Goals as goal
-
-pub returns-in_default : goal.returns-in_default
-returns-in_default c = record { value = c.find-s.ensures; words_after = sym (ap (λ (s : Slot). take_by s c.args.key c.args.block c.args.words.now) (sym c.find-s.ensures) ∙ take_none c.find-s.result _ _ _ (opened c.in_default.in_default-own.keys2)) }
 
 pub overflow_mul-at : goal.overflow_mul-at
 overflow_mul-at c = omega (arith, (free_room c.args.words.now c.args.key _ (sym c.find-s.ensures ∙ c.in-Free.is)))
@@ -36,8 +30,3 @@ offset_bounds-words-at-3 c = omega (arith, (free_room c.args.words.now c.args.ke
 
 pub bounds-words-at-3 : goal.bounds-words-at-3
 bounds-words-at-3 c = simp length-set (omega (arith, (free_room c.args.words.now c.args.key _ (sym c.find-s.ensures ∙ c.in-Free.is))))
-
-pub returns : goal.returns
-returns c =
-    let e = sym c.in-Free.is ∙ c.find-s.ensures in
-    record { value = e; words_after = ap (λ (s : Slot). take_by s c.args.key c.args.block c.args.words.now) e }

@@ -1,17 +1,14 @@
-use mathlib.Core.Path.{sym, ◌∙◌}
-use borrow.Author.Tests.{eq-eqb, ne_eqb}
+use mathlib.Core.Path.{refl, sym, ◌∙◌}
+use borrow.Author.Tests.{ne_eqb}
 use Rattle.medium.proofs.Checks.{admit_pass, admit_stop}
+use Rattle.medium.proofs.Refusals.{not_done, passed}
 use Rattle.objects.specs.Header.{sizable_of}
 use Rattle.objects.proofs.header.ObjectHeader.may_set_size.Goals as goal
 
-pub returns-then-bad-ne0 : goal.returns-then-bad-ne0
+pub returns-in_err-check : goal.returns-in_err-check
 unfolding sizable_of
-returns-then-bad-ne0 c = admit_stop _ _ _ _ c.check-bad.ensures c.if-bad-ne0.true
+returns-in_err-check c = rw (passed _ _ c.from_residual.ensures) (admit_stop _ _ _ _ c.in_err-check.ensures (not_done _))
 
 pub returns-then-self-unset : goal.returns-then-self-unset
 unfolding sizable_of
-returns-then-self-unset c = sym (admit_pass _ _ _ _ c.check-bad.ensures c.if-bad-ne0.false ∙ rw (← c.unset.ensures, ne_eqb _ _ c.if-self-unset.true))
-
-pub returns : goal.returns
-unfolding sizable_of
-returns c = sym (admit_pass _ _ _ _ c.check-bad.ensures c.if-bad-ne0.false ∙ rw (← c.unset.ensures, eq-eqb _ _ c.if-self-unset.false))
+returns-then-self-unset c = sym (admit_pass _ _ _ _ c.in_ok-check.ensures refl ∙ rw (← c.unset.ensures, ne_eqb _ _ c.if-self-unset.true))

@@ -1,40 +1,29 @@
-use mathlib.Core.Path.{refl, sym, ◌∙◌}
-use Rattle.storage.specs.declared.visit.Visited.TheVariants as visited
-use Rattle.storage.proofs.Order.{block_small, tour_end, tour_shut, tour-refused, tour-step, next-nearer, step-nearer, step-behind, visit_answer_lem, visit_stop}
+use mathlib.Core.Path.{sym, ◌∙◌}
+use Rattle.std.specs.Prelude.{None, Some, Ok, Err}
+use Rattle.medium.proofs.Refusals.{passed}
+use Rattle.storage.proofs.Order.{tour_end, tour_shut, tour-refused, tour-step, step-nearer, step-behind, visit_answer_lem, visit_stop}
 use Rattle.storage.proofs.visit.Visitor.next.Goals as goal
 
-pub returns-then-bad-ne0 : goal.returns-then-bad-ne0
-returns-then-bad-ne0 c = (let both = visit_stop _ _ _ _ _ c.check-bad.ensures c.if-bad-ne0.true in record { result_value = both.0; goes = both.1 })
+pub returns-in_err-check : goal.returns-in_err-check
+returns-in_err-check c = rw (passed _ _ c.from_residual.ensures) (let both = visit_stop _ _ _ _ _ c.in_err-check.ensures in record { result_value = both.0; goes = both.1 })
 
-pub loop-g-init : goal.loop-g-init
-loop-g-init c = refl
+pub returns-in_err-is_open : goal.returns-in_err-is_open
+returns-in_err-is_open c = rw (passed _ _ c.from_residual-in_err-is_open.ensures) (let both = visit_answer_lem _ _ _ _ (Err _) (sym c.in_ok-check.ensures) (c.loop-v.invariant ∙ tour-refused _ _ _ _ c.loop-v-test.true _ (sym c.in_err-is_open.ensures)) tt in record { result_value = both.0; goes = both.1 })
 
-pub returns-then-g-at : goal.returns-then-g-at
-returns-then-g-at c = (let both = visit_answer_lem _ _ _ _ visited.End (sym c.check-bad.ensures ∙ c.if-bad-ne0.false) (c.loop-g.invariant ∙ tour_end _ _ _ _ c.if-g-at.true) tt in record { result_value = both.0; goes = both.1 })
+pub loop-v-preserved : goal.loop-v-preserved
+loop-v-preserved c = c.loop-v.invariant ∙ tour_shut _ _ _ _ c.loop-v-test.true (sym (rw c.if-branch.false at c.in_ok-is_open.ensures)) ∙ rw c.onward-v.ensures
 
-pub returns-in-Refused : goal.returns-in-Refused
-returns-in-Refused c = (let both = visit_answer_lem _ _ _ _ (visited.Refused _) (sym c.check-bad.ensures ∙ c.if-bad-ne0.false) (c.loop-g.invariant ∙ tour-refused _ _ _ _ c.if-g-at.false _ (sym (rw c.in-Refused.is at c.is_open-open.ensures))) tt in record { result_value = both.0; goes = both.1 })
-
-pub onward-v-requires : goal.onward-v-requires
-onward-v-requires c = block_small _ _ _ _ c.check-bad.ensures c.if-bad-ne0.false c.if-g-at.false
-
-pub loop-g-smaller-in-No : goal.loop-g-smaller-in-No
-loop-g-smaller-in-No c = rw c.onward-v.ensures (next-nearer c.args.g c.args.t c.args.image.now c.loop-g.v (sym c.check-bad.ensures ∙ c.if-bad-ne0.false) c.if-g-at.false)
-
-pub loop-g-preserved-in-No : goal.loop-g-preserved-in-No
-loop-g-preserved-in-No c = c.loop-g.invariant ∙ tour_shut _ _ _ _ c.if-g-at.false (sym (rw c.in-No.is at c.is_open-open.ensures)) ∙ rw c.onward-v.ensures
-
-pub step-s-requires : goal.step-s-requires
-step-s-requires c = block_small _ _ _ _ c.check-bad.ensures c.if-bad-ne0.false c.if-g-at.false
-
-pub returns-in-Refused-s : goal.returns-in-Refused-s
-returns-in-Refused-s c = (let both = visit_answer_lem _ _ _ _ (visited.Refused _) (sym c.check-bad.ensures ∙ c.if-bad-ne0.false) (c.loop-g.invariant ∙ tour-step _ _ _ _ (sym c.check-bad.ensures ∙ c.if-bad-ne0.false) c.if-g-at.false (sym (rw c.in-Yes.is at c.is_open-open.ensures)) ∙ rw (← c.step-s.ensures, c.in-Refused-s.is)) tt in record { result_value = both.0; goes = both.1 })
+pub returns-in_err-h : goal.returns-in_err-h
+returns-in_err-h c = rw (passed _ _ c.from_residual-in_err-h.ensures) (let both = visit_answer_lem _ _ _ _ (Err c.in_err-h.field-0.0) (sym c.in_ok-check.ensures) (c.loop-v.invariant ∙ tour-step _ _ _ _ (sym c.in_ok-check.ensures) c.loop-v-test.true (sym (rw c.if-branch.true at c.in_ok-is_open.ensures)) ∙ rw (← c.in_err-h.ensures)) tt in record { result_value = both.0; goes = both.1 })
 
 pub returns-in-Object : goal.returns-in-Object
-returns-in-Object c = (let both = visit_answer_lem _ _ _ _ (visited.Object _ _) (sym c.check-bad.ensures ∙ c.if-bad-ne0.false) (c.loop-g.invariant ∙ tour-step _ _ _ _ (sym c.check-bad.ensures ∙ c.if-bad-ne0.false) c.if-g-at.false (sym (rw c.in-Yes.is at c.is_open-open.ensures)) ∙ rw (← c.step-s.ensures, c.in-Object.is)) (step-behind _ c.args.t _ _ (sym c.check-bad.ensures ∙ c.if-bad-ne0.false) c.if-g-at.false _ _ (sym c.step-s.ensures ∙ c.in-Object.is)) in record { result_value = both.0; goes = both.1 })
+returns-in-Object c = let both = visit_answer_lem _ _ _ _ (Ok (Some (c.in-Object.h, c.in-Object.w))) (sym c.in_ok-check.ensures) (c.loop-v.invariant ∙ tour-step _ _ _ _ (sym c.in_ok-check.ensures) c.loop-v-test.true (sym (rw c.if-branch.true at c.in_ok-is_open.ensures)) ∙ rw (← rw c.in-Object.is at c.in_ok-h.ensures)) (step-behind _ c.args.t _ _ (sym c.in_ok-check.ensures) c.loop-v-test.true _ _ (sym (rw c.in-Object.is at c.in_ok-h.ensures))) in record { result_value = both.0; goes = both.1 }
 
-pub loop-g-smaller : goal.loop-g-smaller
-loop-g-smaller c = step-nearer _ c.args.t _ _ (sym c.check-bad.ensures ∙ c.if-bad-ne0.false) c.if-g-at.false _ (sym c.step-s.ensures ∙ c.in-On.is)
+pub loop-v-smaller-in-On : goal.loop-v-smaller-in-On
+loop-v-smaller-in-On c = step-nearer _ c.args.t _ _ (sym c.in_ok-check.ensures) c.loop-v-test.true _ (sym (rw c.in-On.is at c.in_ok-h.ensures))
 
-pub loop-g-preserved : goal.loop-g-preserved
-loop-g-preserved c = c.loop-g.invariant ∙ tour-step _ _ _ _ (sym c.check-bad.ensures ∙ c.if-bad-ne0.false) c.if-g-at.false (sym (rw c.in-Yes.is at c.is_open-open.ensures)) ∙ rw (← c.step-s.ensures, c.in-On.is)
+pub loop-v-preserved-in-On : goal.loop-v-preserved-in-On
+loop-v-preserved-in-On c = c.loop-v.invariant ∙ tour-step _ _ _ _ (sym c.in_ok-check.ensures) c.loop-v-test.true (sym (rw c.if-branch.true at c.in_ok-is_open.ensures)) ∙ rw (← rw c.in-On.is at c.in_ok-h.ensures)
+
+pub returns : goal.returns
+returns c = let both = visit_answer_lem _ _ _ _ (Ok None) (sym c.in_ok-check.ensures) (c.loop-v.invariant ∙ tour_end _ _ _ _ c.loop-v-test.false) tt in record { result_value = both.0; goes = both.1 }

@@ -1,16 +1,17 @@
 use mathlib.Core.Path.{sym, ◌∙◌}
-use Rattle.medium.proofs.Runs.{on, stop}
+use Rattle.medium.proofs.Refusals.{passed}
+use Rattle.medium.proofs.Runs.{on_with, stop_with}
 use Rattle.writer.specs.Writer.{close}
 use Rattle.writer.proofs.writer.ObjectWriter.close.Goals as goal
 
-pub returns-in_default : goal.returns-in_default
+pub returns-in_err-w : goal.returns-in_err-w
 unfolding close
-returns-in_default c = rw c.in_default.is (sym (stop _ _ _ _ _ _ _ _ c.flush-one.ensures.image_after c.in_default.is))
+returns-in_err-w c = rw (passed _ _ c.from_residual.ensures) (sym (stop_with _ _ _ _ _ _ c.flush.ensures.image_after c.in_err-w.was))
 
-pub returns-in_default-a2 : goal.returns-in_default-a2
+pub returns-in_err-sized : goal.returns-in_err-sized
 unfolding close
-returns-in_default-a2 c = rw c.in_default-a2.is (sym (on _ _ _ _ _ _ _ _ c.flush-one.ensures.image_after c.in-Done.is ∙ stop _ _ _ _ _ _ _ _ c.set_payload_size-two.ensures.image_after c.in_default-a2.is))
+returns-in_err-sized c = rw (passed _ _ c.from_residual-in_err-sized.ensures) (sym (on_with _ _ _ _ _ _ c.flush.ensures.image_after c.in_ok-w.was ∙ stop_with _ _ _ _ _ _ c.set_payload_size.ensures c.in_err-sized.was))
 
 pub returns : goal.returns
 unfolding close
-returns c = (rw c.with.ensures at c.mark.ensures) ∙ sym (on _ _ _ _ _ _ _ _ c.flush-one.ensures.image_after c.in-Done.is ∙ on _ _ _ _ _ _ _ _ c.set_payload_size-two.ensures.image_after c.in-Done-a2.is)
+returns c = (rw c.with.ensures at c.mark.ensures) ∙ sym (on_with _ _ _ _ _ _ c.flush.ensures.image_after c.in_ok-w.was ∙ on_with _ _ _ _ _ _ c.set_payload_size.ensures c.in_ok-sized.was)

@@ -2,10 +2,10 @@ use mathlib.Core.Path.{◌≡◌, sym, ◌∙◌}
 use Prim.Native.Nat.{◌<◌, ◌+◌, ◌-◌}
 use native.Mathlib.Omega.{arith}
 use lib.ListN.{length}
-use lib.Seq.{length-take-le}
 use Rattle.medium.specs.Granularity.{width_of}
 use Rattle.medium.proofs.Places.{width_is}
-use Rattle.medium.proofs.Runs.{on, stop}
+use Rattle.medium.proofs.Refusals.{passed}
+use Rattle.medium.proofs.Runs.{on_with, stop_with}
 use Rattle.writer.proofs.Laws.{rest_all}
 use Rattle.writer.specs.Writer.{pending_of}
 use Rattle.writer.proofs.Steps.{pending_none, pending_length, pending_one, fills_none, fills_not, pending_join}
@@ -23,22 +23,16 @@ returns-then-src-left c =
     omega (arith, c.requires)))) (omega (arith, c.requires, c.if-src-left.true, c.width.ensures)) in
     rw (pending_one _ _ _ _ _ (fills_not c.args.self _ _ w.0 l)) c.top_up.ensures.image_after
 
-pub slice_bounds-top_up-end : goal.slice_bounds-top_up-end
-slice_bounds-top_up-end c = sym (length-take-le _ _ c.if-src-left.false)
-
-pub top_up-one-requires : goal.top_up-one-requires
-top_up-one-requires c = rw (length-take-le _ _ c.if-src-left.false) (omega (arith, c.requires, c.width.ensures))
-
-pub returns-in_default : goal.returns-in_default
-returns-in_default c =
+pub returns-in_err-w : goal.returns-in_err-w
+returns-in_err-w c =
     let k : c.args.self.held + (c.width.result - c.args.self.held) ≡ width_of c.args.g.granularity = omega (arith, c.requires, c.width.ensures) in
-    rw c.in_default.is (sym (pending_join _ _ _ _ _ _ ((let e : length c.args.self.tail ≡ 4 = search rules in
+    rw (passed _ _ c.from_residual.ensures) (sym (pending_join _ _ _ _ _ _ ((let e : length c.args.self.tail ≡ 4 = search rules in
     let w = width_is c.args.g.granularity in
-    omega (arith, c.requires))) c.if-self-eq0.false k c.if-src-left.false ∙ stop _ _ _ _ _ _ _ _ c.top_up-one.ensures.image_after c.in_default.is))
+    omega (arith, c.requires))) c.if-self-eq0.false k c.if-src-left.false ∙ stop_with _ _ _ _ _ _ c.top_up-2.ensures.image_after c.in_err-w.was))
 
 pub returns : goal.returns
 returns c =
     let k : c.args.self.held + (c.width.result - c.args.self.held) ≡ width_of c.args.g.granularity = omega (arith, c.requires, c.width.ensures) in
     (rw (rest_all _ _) at c.store_words-2.ensures.image_after) ∙ sym (pending_join _ _ _ _ _ _ ((let e : length c.args.self.tail ≡ 4 = search rules in
     let w = width_is c.args.g.granularity in
-    omega (arith, c.requires))) c.if-self-eq0.false k c.if-src-left.false ∙ on _ _ _ _ _ _ _ _ c.top_up-one.ensures.image_after c.in-Done.is)
+    omega (arith, c.requires))) c.if-self-eq0.false k c.if-src-left.false ∙ on_with _ _ _ _ _ _ c.top_up-2.ensures.image_after c.in_ok-w.was)

@@ -1,20 +1,21 @@
 use mathlib.Core.Path.{sym, ◌∙◌}
-use Rattle.medium.proofs.Runs.{on, stop, run_ask}
+use Rattle.medium.proofs.Refusals.{passed}
+use Rattle.medium.proofs.Runs.{on_with, stop_with, run_ask}
 use Rattle.writer.specs.Writer.{write_to}
 use Rattle.writer.proofs.writer.ObjectWriter.write_to.Goals as goal
 
-pub returns-in_default : goal.returns-in_default
+pub returns-in_err-w1 : goal.returns-in_err-w1
 unfolding write_to
-returns-in_default c = rw (c.of.ensures, c.in_default.is) (sym (stop _ _ _ _ _ _ _ _ c.allocate-one.ensures.image_after c.in_default.is))
+returns-in_err-w1 c = rw (passed _ _ c.from_residual.ensures) (sym (stop_with _ _ _ _ _ _ c.try_allocate.ensures c.in_err-w1.was))
 
-pub returns-in_default-a2 : goal.returns-in_default-a2
+pub returns-in_err-w2 : goal.returns-in_err-w2
 unfolding write_to
-returns-in_default-a2 c = rw (c.of-in_default-a2.ensures, c.in_default-a2.is) (sym (on _ _ _ _ _ _ _ _ c.allocate-one.ensures.image_after c.in-Done.is ∙ stop _ _ _ _ _ _ _ _ c.write-two.ensures.image_after c.in_default-a2.is))
+returns-in_err-w2 c = rw (passed _ _ c.from_residual-in_err-w2.ensures) (sym (on_with _ _ _ _ _ _ c.try_allocate.ensures c.in_ok-w1.was ∙ stop_with _ _ _ _ _ _ c.try_write.ensures c.in_err-w2.was))
 
-pub returns-in_default-a3 : goal.returns-in_default-a3
+pub returns-in_err-w3 : goal.returns-in_err-w3
 unfolding write_to
-returns-in_default-a3 c = rw (c.of-in_default-a3.ensures, c.in_default-a3.is) (sym (on _ _ _ _ _ _ _ _ c.allocate-one.ensures.image_after c.in-Done.is ∙ on _ _ _ _ _ _ _ _ c.write-two.ensures.image_after c.in-Done-a2.is ∙ stop _ _ _ _ _ _ _ _ c.finalize-three.ensures.image_after c.in_default-a3.is))
+returns-in_err-w3 c = rw (passed _ _ c.from_residual-in_err-w3.ensures) (sym (on_with _ _ _ _ _ _ c.try_allocate.ensures c.in_ok-w1.was ∙ on_with _ _ _ _ _ _ c.try_write.ensures c.in_ok-w2.was ∙ stop_with _ _ _ _ _ _ c.try_finalize.ensures c.in_err-w3.was))
 
 pub returns : goal.returns
 unfolding write_to
-returns c = rw (c.of-2.ensures, c.in-Done-a3.is, c.total.ensures.value) (sym (on _ _ _ _ _ _ _ _ c.allocate-one.ensures.image_after c.in-Done.is ∙ on _ _ _ _ _ _ _ _ c.write-two.ensures.image_after c.in-Done-a2.is ∙ on _ _ _ _ _ _ _ _ c.finalize-three.ensures.image_after c.in-Done-a3.is ∙ run_ask _ _ _))
+returns c = rw c.total.ensures.value (sym (on_with _ _ _ _ _ _ c.try_allocate.ensures c.in_ok-w1.was ∙ on_with _ _ _ _ _ _ c.try_write.ensures c.in_ok-w2.was ∙ on_with _ _ _ _ _ _ c.try_finalize.ensures c.in_ok-w3.was ∙ run_ask _ _ _))

@@ -1,7 +1,0 @@
-use Rattle.crossing.proofs.outs.hand_back.Goals as goal
-
-pub returns-in_default : goal.returns-in_default
-returns-in_default c = record { value = c.hand_back.ensures.value; units_after = c.hand_back.ensures.units_after; out_after = rw c.in_default.is }
-
-pub returns : goal.returns
-returns c = record { value = c.hand_back-2.ensures.value; units_after = c.hand_back-2.ensures.units_after; out_after = rw c.in-Done.is c.put_header.ensures }
