@@ -67,7 +67,8 @@ fn write_record(
     ObjectWriter::write_to(g, image, f, at, t, &payload[start..end])
 }
 
-// The records of a block, four numbers each (type, offset, start and length in the payload buffer), in order.
+// The records of a block, four numbers each (type, offset, start and length in the payload buffer), in order. No slice of records: C lends the
+// numbers in a row.
 pub fn write_all(
     g: Geometry,
     image: &mut [u8],

@@ -65,10 +65,7 @@ fn is_finished(seen: Result<Option<ObjectHeader>, Refusal>) -> bool
 fn are_apart(from: ObjectLocation, to: ObjectLocation) -> bool
     ensures { result ≡ apart from to }
 {
-    if from.block != to.block {
-        return true;
-    }
-    from.offset != to.offset
+    from != to
 }
 
 #[tactic(auto, unfolding(crate::specs::Moment::twin_of))]

@@ -90,7 +90,8 @@ pub fn sweep(g: Geometry, image: &mut [u8], f: Fuse) -> Swept
     phases(g, image, f, &mut none)
 }
 
-// The same, sooner: what was met is noted in the words, of which there is one for each byte of the image.
+// The same, sooner: what was met is noted in the words, of which there is one for each byte of the image. A flat slice, since C lends it: one phase
+// has marks of places in it, another slots of three.
 pub fn sweep_with(g: Geometry, image: &mut [u8], f: Fuse, words: &mut [u32]) -> Swept
     ensures unreferred_after { ended result.answer (both image.new (result.twins ∷ result.unreferred ∷ [])) ≡ run f (sweep_with g (length words.old)) (both image.old (0 ∷ 0 ∷ [])) }
     ensures words_after { words.new ≡ words_after (words_fit g (length image.old) (length words.old)) words.old }
