@@ -13,7 +13,6 @@ A row is a function:
   leaves   what a call leaves in numbers that are lent, over g and the parameters as they went in
   hand     how the answer goes out (HANDS), where `calls` does not do it itself: then `as` or `by` says how the values cross
   before   lines of code before the call
-  told     what the call's promise gives, where it is not just the definition
   small    why a number that goes out fits its place, where it is wider in the library: {called} is the call, {told} its promise
   homes    'crate word' for a word of the contract that stands in more crates than one
 """
@@ -192,7 +191,7 @@ ITERATORS = [
               'stay: *found is 0 at a free place, and 2 at the end of the block.',
          place='image', params='iterator=iterator found>u32 header>header', before='let i = values::iterator_of(iterator);',
          calls='objects::iterator::ObjectIterator::next', on='i', args='g, image', means='next_of g (iterator_of iterator) image',
-         hand='next', told='c.iterator_of-i.ensures, ← {}'),
+         hand='next'),
 ]
 
 MOVING = [

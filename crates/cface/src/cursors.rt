@@ -110,6 +110,7 @@ pub(crate) fn hand_next(
 }
 
 // The reader that the numbers say, at the start of the payload again. The library has no geometry to test there, so 6 is given here.
+#[tactic(auto, unfolding(crossing::specs::Crossing::fitting), using(medium::proofs::Refusals::passed, medium::proofs::Refusals::not_done, objects::proofs::Answers::gate_on, objects::proofs::Answers::gate_stop))]
 fn rewound(g: Geometry, reader: &[u32; 6]) -> Result<ObjectReader, Refusal>
     ensures value { answer_of result ≡ fitting g (rewind_of reader.now) }
     ensures small { SmallReader (answer_of result) }
@@ -127,6 +128,7 @@ pub(crate) fn rewind(g: Geometry, reader: &mut [u32; 6]) -> u8
 }
 
 // The same of a metadata header, at its first location again.
+#[tactic(auto, unfolding(crossing::specs::Crossing::fitting), using(medium::proofs::Refusals::passed, medium::proofs::Refusals::not_done, objects::proofs::Answers::gate_on, objects::proofs::Answers::gate_stop))]
 fn first_of(g: Geometry, metadata: &[u32; 9]) -> Result<MetadataObjectHeader, Refusal>
     ensures value { answer_of result ≡ fitting g (reset_in metadata.now) }
     ensures small { SmallMetadata (answer_of result) }

@@ -16,6 +16,7 @@ pub(crate) fn read(g: Geometry, image: &[u8], block: u32, offset: u32, buffer: &
 }
 
 // The bytes of a location over the first of six, and how many.
+#[tactic(auto, unfolding(crossing::specs::Crossing::telling_by), using(crate::proofs::Buffers::into_stop, medium::proofs::Refusals::not_done))]
 pub(crate) fn location(g: Geometry, at: ObjectLocation, bytes: &mut [u8; 6], len: &mut u64) -> u8
     ensures { told result (two bytes.new len.new) ≡ telling_by bytes_out (two bytes.old len.old) (into_bytes g at (location_length g)) }
 {

@@ -11,6 +11,7 @@ use medium::refusal::Refusal;
 use writer::writer::ObjectWriter;
 
 // A header, counts that the library tests, and numbers that are bytes and a flag.
+#[tactic(auto, unfolding(crate::specs::Writers::writer_of), using(medium::proofs::Refusals::passed, medium::proofs::Refusals::not_done, objects::proofs::Answers::gate_on, objects::proofs::Answers::gate_stop, crate::proofs::Counts::sayable_is))]
 pub fn writer_of(n: &[u32; 12]) -> Result<ObjectWriter, Refusal>
     ensures { answer_of result ≡ writer_of n.now }
 {

@@ -18,6 +18,7 @@ fn put_names(n: Names, out: &mut [u32; 2])
 }
 
 // Before the first name. The library tests no geometry there, so 6 is given here.
+#[tactic(auto, unfolding(crossing::specs::Crossing::telling_by), using(crossing::proofs::Crossings::fitting_on, crossing::proofs::Crossings::fitting_stop, medium::proofs::Refusals::not_done))]
 pub(crate) fn start(g: Geometry, names: &mut [u32; 2]) -> u8
     ensures { told result names.new ≡ telling names_numbers names.old (fitting g (done (names_from g))) }
 {
@@ -29,6 +30,7 @@ pub(crate) fn start(g: Geometry, names: &mut [u32; 2]) -> u8
 }
 
 // The next name: 1 with it, the place of its metadata object and the names behind it, or 0 at the end.
+#[tactic(auto, using(crate::proofs::Handed::name_told, crate::proofs::Handed::name_none, crate::proofs::Handed::name_refused))]
 pub(crate) fn next(
     g: Geometry,
     image: &[u8],

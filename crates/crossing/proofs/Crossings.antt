@@ -14,7 +14,7 @@ use Rattle.medium.specs.Granularity.{pick}
 use Rattle.medium.specs.Geometry.{admit, fit_of, geometry_of, geometry_ok}
 use Rattle.medium.specs.Refusal.{refusal_number, answer_of, code_of}
 use Rattle.medium.specs.Fuse.{Stored, stored_number}
-use Rattle.medium.specs.Operation.{Op, EndIn, Answer, done, refused, run, ended_by, ended_with, answered, unless_done, unless_stored}
+use Rattle.medium.specs.Operation.{Op, EndIn, Answer, done, refused, run, ended_by, ended_with, answered, unless_done}
 use Rattle.medium.proofs.Runs.{ask_on, ask_stop}
 use Rattle.medium.proofs.Checks.{picked}
 use Rattle.objects.proofs.Answers.{gate_on, gate_stop}
@@ -77,14 +77,8 @@ module _ {S A : Type 0} (e : EndIn S A) (u : ℕ) where
   unfolding crossing
   stopped fused n s h = rw (h, units_same)
 
--- with a value beside its number
+-- with a value that the store hands on
 module _ {S A B : Type 0} (e : EndIn S A) (k : A → B) (u : ℕ) (b : B) where
-  pub stored_with : (r : Stored) (x : A) (after : S) (n v : ℕ) (w : B) → ended_by r x after ≡ e → n ≡ stored_number r → v ≡ units_after r u → w ≡ unless_stored r b (k x)
-      → crossed_with n v after w ≡ crossing_with k u b e
-  unfolding crossing_with units_after
-  stored_with (Ok f) x after n v w h en ev ew = rw (← h, en, ev, ew)
-  stored_with (Err z) x after n v w h en ev ew = rw (← h, en, ev, ew)
-
   pub handed_with : (r : Result (A × Fuse) Stopped) (after : S) (n v : ℕ) (w : B) → ended_with r after ≡ e → n ≡ stored_number (left_of r) → v ≡ units_after (left_of r) u
       → w ≡ value_of k b r → crossed_with n v after w ≡ crossing_with k u b e
   unfolding crossing_with units_after
@@ -118,12 +112,6 @@ module _ {X A : Type 0} (g : Geometry) (a : Answer X) (o : Geometry → X → Op
   none_stored {m} {n} d q = stopped _ u fused n s (rw q (given_stop g a o (fuse_of fused u) s d))
 
 module _ {X A B : Type 0} (g : Geometry) (a : Answer X) (o : Geometry → X → Op A) (k : A → B) (fused : Bool) (u : ℕ) (b : B) (s : List ℕ) where
-  pub given_stored_with : {x : X} (f : Fuse) (r : Stored) (y : A) (after : List ℕ) (n v : ℕ) (w : B)
-      → a ≡ done x → f ≡ fuse_of fused u → ended_by r y after ≡ run f (o g x) s → n ≡ stored_number r → v ≡ units_after r u → w ≡ unless_stored r b (k y)
-      → crossed_with n v after w ≡ crossing_with k u b (run (fuse_of fused u) (given g a o) s)
-  given_stored_with f r y after n v w d ef er = stored_with _ k u b r y after n v w ((rw ef at er) ∙ sym (given_on g a o (fuse_of fused u) s d))
-
-  -- the store hands its value on itself
   pub given_handed : {x : X} (f : Fuse) (r : Result (A × Fuse) Stopped) (after : List ℕ) (n v : ℕ) (w : B)
       → a ≡ done x → f ≡ fuse_of fused u → ended_with r after ≡ run f (o g x) s → n ≡ stored_number (left_of r) → v ≡ units_after (left_of r) u → w ≡ value_of k b r
       → crossed_with n v after w ≡ crossing_with k u b (run (fuse_of fused u) (given g a o) s)

@@ -14,7 +14,7 @@ use Rattle.objects.specs.declared.header.ObjectHeader.{ObjectHeader}
 use Rattle.objects.specs.declared.reader.ObjectReader.{ObjectReader}
 use Rattle.objects.specs.declared.metadata.MetadataObjectHeader.{MetadataObjectHeader}
 use Rattle.objects.specs.declared.iterator.ObjectIterator.{ObjectIterator}
-use Rattle.objects.specs.Types.{type_byte, TypeSaid, typed, untyped, type_of, rank_of, type_number}
+use Rattle.objects.specs.Types.{TypeSaid, typed, untyped, type_of, rank_of, type_number}
 use Rattle.objects.specs.Reader.{possible}
 use Rattle.objects.specs.Info.{Info, found, none}
 use Rattle.objects.specs.Listing.{placed, Met, object, free_place, block_end}

@@ -12,6 +12,7 @@ use medium::granularity::Granularity;
 use medium::refusal::Refusal;
 
 // The geometry that six numbers say. Where they say none it is one with no bytes, which every call refuses with 6.
+#[tactic(auto, unfolding(crate::specs::Crossing::geometry_in), using(crate::proofs::Crossings::or_none_of))]
 pub fn geometry(n: &[u32; 6]) -> Geometry
     ensures { result ≡ geometry_in n.now }
 {
@@ -26,6 +27,7 @@ pub fn geometry(n: &[u32; 6]) -> Geometry
 }
 
 // The number of a value whose numbers say none, for a call with an image of so many bytes: 6 and 7 come first. C takes a number.
+#[tactic(auto, using(medium::proofs::Checks::admit_pass, medium::proofs::Checks::admit_stop, medium::proofs::Refusals::not_done))]
 pub fn refusal(g: Geometry, room: usize, k: u8) -> u8
     ensures { result ≡ admit g room k }
 {
@@ -36,6 +38,7 @@ pub fn refusal(g: Geometry, room: usize, k: u8) -> u8
 }
 
 // The same for a call with no image.
+#[tactic(auto, using(crate::proofs::Crossings::alone_pass, crate::proofs::Crossings::alone_stop, medium::proofs::Refusals::not_done))]
 pub fn refusal_alone(g: Geometry, k: u8) -> u8
     ensures { result ≡ admit_alone g k }
 {

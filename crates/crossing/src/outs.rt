@@ -57,6 +57,7 @@ pub fn hand_info(
 }
 
 // An iterator right after the header of a block. The library tests no geometry there, so 6 is given here.
+#[tactic(auto, unfolding(crate::specs::Crossing::telling_by), using(crate::proofs::Crossings::fitting_on, crate::proofs::Crossings::fitting_stop, medium::proofs::Refusals::not_done))]
 pub fn start(g: Geometry, block: u32, iterator: &mut [u32; 2]) -> u8
     ensures { told result iterator.new ≡ telling iterator_numbers iterator.old (fitting g (done (start_of g block))) }
 {

@@ -27,6 +27,7 @@ impl From<Refusal> for LoadError {
 }
 
 // The geometry of a record that keeps the medium's rules.
+#[tactic(auto, unfolding(crate::specs::Files::sound_of), using(medium::proofs::Refusals::passed, medium::proofs::Refusals::not_done))]
 fn sound(raw: &[u8]) -> Result<Geometry, Refusal>
     ensures { answer_of result ≡ sound_of raw.now }
 {
@@ -35,6 +36,7 @@ fn sound(raw: &[u8]) -> Result<Geometry, Refusal>
     Ok(g)
 }
 
+#[tactic(auto, using(medium::proofs::Refusals::passed, crate::proofs::Refusals::refuses))]
 fn load_geometry(rt: &HostRuntime, path: &[u8]) -> Result<Geometry, LoadError>
     ensures { RecordFits result }
 {
@@ -47,6 +49,7 @@ fn load_geometry(rt: &HostRuntime, path: &[u8]) -> Result<Geometry, LoadError>
 }
 
 // How many bytes of the buffer are the image.
+#[tactic(auto, using(medium::proofs::Refusals::passed, medium::proofs::Refusals::not_done, crate::proofs::Refusals::check_refuses))]
 fn load_image(
     rt: &HostRuntime,
     path: &[u8],

@@ -13,6 +13,7 @@ use medium::geometry::Geometry;
 use medium::refusal::Refusal;
 
 // The geometry of a record, or 6: another length, one of the last four bytes not 0, or no granularity.
+#[tactic(auto, unfolding(crate::specs::GeometryRecord::recorded), using(crate::proofs::Shape::sixteen))]
 pub fn geometry_of(raw: &[u8]) -> Result<Geometry, Refusal>
     ensures { answer_of result ≡ recorded raw.now }
 {
@@ -23,6 +24,7 @@ pub fn geometry_of(raw: &[u8]) -> Result<Geometry, Refusal>
 }
 
 // Sixteen bytes, with the last four 0.
+#[tactic(auto, unfolding(crate::specs::GeometryRecord::well_formed))]
 fn is_well_formed(raw: &[u8]) -> bool
     ensures { result ≡ well_formed raw.now }
 {
@@ -55,6 +57,7 @@ fn wide(byte: u8) -> u32
 }
 
 // Four bytes from a place on, low byte first.
+#[tactic(auto, unfolding(crate::specs::GeometryRecord::word_at))]
 fn word(raw: &[u8], at: usize) -> u32
     requires { at + 4 ≤ length raw.now }
     ensures { result ≡ word_at raw.now at }

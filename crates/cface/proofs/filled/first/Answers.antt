@@ -3,9 +3,6 @@ use lib.Seq.{length-take-le}
 use Rattle.cface.proofs.Buffers.{into_length, first_told, first_none}
 use Rattle.cface.proofs.filled.first.Goals as goal
 
-pub slice_bounds-into_bytes-end-2 : goal.slice_bounds-into_bytes-end-2
-slice_bounds-into_bytes-end-2 c = sym (length-take-le _ _ c.requires)
-
 pub returns-in-Ok : goal.returns-in-Ok
 returns-in-Ok c = let d = sym (rw (length-take-le _ _ c.requires, c.in-Ok.is) at c.into_bytes.ensures.buffer_after) in first_told _ _ _ _ c.args.bytes.now d (into_length _ _ _ _ d)
 

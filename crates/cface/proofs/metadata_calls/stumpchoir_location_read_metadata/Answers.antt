@@ -3,6 +3,3 @@ use Rattle.cface.proofs.metadata_calls.stumpchoir_location_read_metadata.Goals a
 
 pub hand_metadata-requires : goal.hand_metadata-requires
 hand_metadata-requires c = metadata_at_small _ _ _ _ c.read_at-a.ensures
-
-pub returns : goal.returns
-returns c = rw (← c.geometry-g.ensures, ← c.read_at-a.ensures) c.hand_metadata.ensures
