@@ -43,9 +43,9 @@ HANDS = {
     'batched': dict(code='batches::hand_back'),
     'swept': dict(code='sweeps::hand_back'),
     'headed': {'code': 'outs::hand_back', 'as': 'header_numbers'},
-    'new_writer': {'code': 'writers::hand_out', 'as': 'writer_numbers'},
-    # the numbers of a writer that came in say after 8 that it is spent
-    'writer': {'code': 'writers::hand_back', 'as': 'writer_numbers', 'spent': True},
+    # a writer stands beside its answer, so its law is another than given_handed; the numbers of one that came in say after 8 that it is spent
+    'new_writer': {'code': 'writers::hand_out', 'as': 'writer_numbers', 'law': 'given_beside'},
+    'writer': {'code': 'writers::hand_back', 'as': 'writer_numbers', 'law': 'given_spent', 'spent': True},
     'total': {'code': 'writers::hand_total', 'as': 'plain'},
     'count': {'code': 'hand::hand', 'as': 'plain'},
     'flag': {'code': 'hand::hand', 'as': 'flag_number'},
@@ -107,8 +107,8 @@ WRITERS = [
          says='Stores the type (8F, 8E or 8D, else 4) of a new object, over Free or over Allocated of the same type: its writer. Under '
               'the strict mark the second is 10, and the first where its unit is programmed.',
          place='store', params='block offset kind:type writer>writer', value='type',
-         calls='writer::writer::ObjectWriter::try_allocate', args='g, image, f, at, t', means='allocate g at t', hand='new_writer',
-         small='small_by _ _ _ _ {called}.result {told} (λ v. allocate_small _ _ _ _ v)'),
+         calls='writer::writer::ObjectWriter::allocate', args='g, image, f, at, t', means='allocate g at t', hand='new_writer',
+         small='small_by _ _ _ _ {called}.result.answer {called}.result.writer {told} (allocate_small _ _ _ _ _)'),
     dict(name='writer_space', says='The payload bytes that still fit; 9 where the writer stands past the end of its block.', place='alone',
          params='writer<writer space>u64', value='writer', calls='writer::writer::ObjectWriter::space', on='w', args='g',
          means='space_of g w', hand='count'),
@@ -120,19 +120,19 @@ WRITERS = [
     dict(name='writer_write',
          says='Takes payload bytes: whole words are stored, less than a word is held. 5 where they are more than the space. The word that held '
               'bytes fill is a store of its own: 10 of the words behind it leaves it there.',
-         place='store', params='writer=writer src[]', value='writer', calls='writer::writer::ObjectWriter::try_write', on='w',
+         place='store', params='writer=writer src[]', value='writer', calls='writer::writer::ObjectWriter::write', on='w',
          args='g, image, f, src', means='write_some g w src', hand='writer',
-         small='small_by _ _ _ _ {called}.result {told} (λ v. some_small _ _ _ v _)'),
+         small='small_by _ _ _ _ {called}.result.answer {called}.result.writer {told} (some_small _ _ _ _ _)'),
     dict(name='writer_finalize', says='Ends the object: what is held, the size, and the mark of a Finalized object; each store can be 10.',
-         place='store', params='writer=writer', value='writer', calls='writer::writer::ObjectWriter::try_finalize', on='w', args='g, image, f',
+         place='store', params='writer=writer', value='writer', calls='writer::writer::ObjectWriter::finalize', on='w', args='g, image, f',
          means='finalize g w', hand='writer',
-         small='small_by _ _ _ _ {called}.result {told} (λ v. finalize_small _ _ _ v)'),
+         small='small_by _ _ _ _ {called}.result.answer {called}.result.writer {told} (finalize_small _ _ _ _)'),
     dict(name='writer_delete',
          says='Deletes the object: one that is not Finalized gets its size first; of one that is Free or Deleted nothing is stored. Each store '
               'can be 10.',
-         place='store', params='writer=writer', value='writer', calls='writer::writer::ObjectWriter::try_delete', on='w', args='g, image, f',
+         place='store', params='writer=writer', value='writer', calls='writer::writer::ObjectWriter::delete', on='w', args='g, image, f',
          means='delete g w', hand='writer',
-         small='small_by _ _ _ _ {called}.result {told} (λ v. delete_small _ _ _ v)'),
+         small='small_by _ _ _ _ {called}.result.answer {called}.result.writer {told} (delete_small _ _ _ _)'),
 ]
 
 READERS = [

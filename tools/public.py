@@ -59,6 +59,25 @@ def conversions(home, text):
         yield Function('::'.join(home + [word(target) + trait + word(source), method]), [('ensures', '', told)], [(put, source)], True)
 
 
+TRAIT = re.compile(r'^pub trait (\w+)[^{]*\{\n(.*?)^\}', re.M | re.S)
+METHOD = re.compile(r'^    fn (\w+)\(', re.M)
+IMPL = re.compile(r'^impl (\w+) for (\w+) \{\n(.*?)^\}', re.M | re.S)
+
+
+def traits(whole):
+    """The public traits of a crate: name -> its methods, each with its clauses."""
+    return {name: {m[1]: clauses(body, m.end())[0] for m in METHOD.finditer(body)} for name, body in TRAIT.findall(whole)}
+
+
+def methods(home, text, known):
+    """The methods that a file's types have by a public trait: they promise the trait's clauses, with the type's own ghost members in them."""
+    for trait, kind, body in IMPL.findall(text):
+        ghosts = dict(re.findall(r'^    ghost (\w+) = \{ (.*) \};', body, re.M))
+        for method, told in known.get(trait, {}).items():
+            says = [(k, name, re.sub(r'\b\w+\b', lambda w: ghosts.get(w[0], w[0]), clause)) for k, name, clause in told]
+            yield Function('::'.join(home + [kind[0].upper() + kind[1:] + trait, method]), says, [('self', kind)], True)
+
+
 def libraries():
     """The library crates that crates.txt lists, in its order. A static library only hands on what a library has, and nothing can stand on it."""
     return [name for name, words, _ in listed() if 'staticlib' not in words and os.path.isfile(f'crates/{name}/src/lib.rt')]
@@ -70,10 +89,12 @@ def public(crate, hidden=False):
     whole = '\n'.join(texts.values())
     closed = set(re.findall(r'(?<!pub )\bmod\s+(\w+)\s*;', whole))
     again = ' '.join(re.findall(r'\bpub use\s([^;]*);', whole))
+    known = traits(whole)
     for file, text in texts.items():
         below = os.path.relpath(file, f'crates/{crate}/src')[:-3].split(os.sep)
         home = [] if below == ['lib'] else below
         yield from conversions([crate] + home, text)
+        yield from methods([crate] + home, text, known)
         stack, at = [], 0
         while m := ITEM.search(text, at):
             at = m.end()

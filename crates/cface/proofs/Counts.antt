@@ -9,10 +9,10 @@ use lib.Dec.{leb}
 use borrow.Author.Tests.{leb-true}
 use Rattle.medium.specs.declared.geometry.Geometry.{Geometry}
 use Rattle.medium.specs.declared.fuse.Fuse.{Fuse}
-use Rattle.medium.specs.declared.fuse.Stopped.{Stopped}
-use Rattle.std.specs.Prelude.{Result, Ok, Err}
+use Rattle.std.specs.Prelude.{Ok, Err}
+use Rattle.medium.specs.Fuse.{Stored}
 use Rattle.medium.specs.Granularity.{pick}
-use Rattle.medium.specs.Operation.{done, Op, ◌>>=◌, ask, give, test, run, ended_with}
+use Rattle.medium.specs.Operation.{done, Op, ◌>>=◌, ask, give, test, run, ended_by}
 use Rattle.medium.proofs.Places.{width_is}
 use Rattle.medium.proofs.Runs.{value_of, bound}
 use Rattle.objects.specs.declared.types.ObjectType.{ObjectType}
@@ -113,7 +113,7 @@ pub allocate_small : (g : Geometry) (at : ObjectLocation) (t : ObjectType) (img 
 allocate_small g at t img v e = rw (gave (allocate g at t) img _ (fresh_of g at t) v (allocate_stores g at t img) e) (omega arith, omega arith)
 
 -- and so beside its answer
-pub small_by : (f : Fuse) (o : Op ObjectWriter) (img i : List ℕ) (r : Result (ObjectWriter × Fuse) Stopped) → ended_with r i ≡ run f o img
-    → ((v : ObjectWriter) → (o img).answer ≡ done v → Small v) → SmallBy r
-small_by f o img i (Ok x) e h = h x.0 (value_of f o img i (Ok x.1) x.0 x.1 e refl)
-small_by f o img i (Err z) e h = tt
+pub small_by : (f : Fuse) (o : Op ObjectWriter) (img i : List ℕ) (r : Stored) (v : ObjectWriter) → ended_by r v i ≡ run f o img
+    → ((o img).answer ≡ done v → Small v) → SmallBy r v
+small_by f o img i (Ok k) v e h = h (value_of f o img i (Ok k) v k e refl)
+small_by f o img i (Err z) v e h = tt

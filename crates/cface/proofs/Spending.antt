@@ -9,17 +9,16 @@ use lib.Dec.{leb, eqb}
 use borrow.Author.Tests.{ne_eqb}
 use Rattle.medium.specs.declared.geometry.Geometry.{Geometry}
 use Rattle.medium.specs.declared.fuse.Fuse.{Fuse}
-use Rattle.medium.specs.declared.fuse.Stopped.{Stopped}
-use Rattle.std.specs.Prelude.{Result}
+use Rattle.std.specs.Prelude.{Ok, Err}
 use Rattle.medium.specs.Granularity.{pick}
 use Rattle.medium.specs.Geometry.{geometry_ok, admit}
-use Rattle.medium.specs.Fuse.{stored_number}
-use Rattle.medium.specs.Operation.{Op, Answer, done, refused, and_then, or_refuse, run, ended_with}
+use Rattle.medium.specs.Fuse.{Stored, stored_number}
+use Rattle.medium.specs.Operation.{Op, Answer, done, refused, and_then, or_refuse, run, ended_by, unless_stored}
 use Rattle.objects.specs.declared.state.CompositeObjectState.{CompositeObjectState}
 use Rattle.objects.specs.declared.header.ObjectHeader.{ObjectHeader}
 use Rattle.objects.specs.Types.{TypeSaid, typed, untyped, type_of}
 use Rattle.writer.specs.declared.writer.ObjectWriter.{ObjectWriter}
-use Rattle.crossing.specs.Crossing.{given, fuse_of, units_after, left_of, value_of, crossed_with, crossing_with}
+use Rattle.crossing.specs.Crossing.{given, fuse_of, units_after, crossed_with, crossing_with}
 use Rattle.crossing.specs.Values.{data_state_of, state_of, state_by, header_from, header_of, located}
 use Rattle.cface.specs.Writers.{sayable_of, writer_with, writer_of, writer_numbers, left_by, spent_after}
 use Rattle.crossing.proofs.Crossings.{given_handed, none_stored_with}
@@ -82,7 +81,17 @@ writer_uncut ns n e =
     said : ℕ
     said = sayable_of (get_or ns 7 0) (get_or ns 8 0) (get_or ns 9 0) (get_or ns 10 0) (get_or ns 11 0)
 
--- ---- how a store of a writer that came in crosses
+-- ---- how a store crosses whose writer stands beside its answer
+
+module _ {X : Type 0} (g : Geometry) (a : Answer X) (o : Geometry → X → Op ObjectWriter) (fused : Bool) (u : ℕ) (ns s : List ℕ) where
+  pub given_beside : {x : X} (f : Fuse) (r : Stored) (y : ObjectWriter) (after : List ℕ) (n v : ℕ) (w : List ℕ)
+      → a ≡ done x → f ≡ fuse_of fused u → ended_by r y after ≡ run f (o g x) s → n ≡ stored_number r → v ≡ units_after r u
+      → w ≡ unless_stored r ns (writer_numbers y)
+      → crossed_with n v after w ≡ crossing_with writer_numbers u ns (run (fuse_of fused u) (given g a o) s)
+  given_beside f (Ok k) y after = given_handed g a o writer_numbers fused u ns s f (Ok (y, k)) after
+  given_beside f (Err z) y after = given_handed g a o writer_numbers fused u ns s f (Err z) after
+
+-- ---- and of one that came in
 
 admit_uncut : (g : Geometry) (room n : ℕ) → n < 8 → admit g room n < 8
 unfolding admit
@@ -94,14 +103,14 @@ admit_uncut g room n h = go (geometry_ok g) (eqb (g.size * g.count) room)
     go false y = omega arith
 
 module _ (g : Geometry) (a : Answer ObjectWriter) (o : Geometry → ObjectWriter → Op ObjectWriter) (fused : Bool) (u : ℕ) (ns s : List ℕ) where
-  pub given_spent : {x : ObjectWriter} (f : Fuse) (r : Result (ObjectWriter × Fuse) Stopped) (after : List ℕ) (n v : ℕ) (w : List ℕ)
-      → a ≡ done x → f ≡ fuse_of fused u → ended_with r after ≡ run f (o g x) s → n ≡ stored_number (left_of r) → v ≡ units_after (left_of r) u
-      → w ≡ left_by (stored_number (left_of r)) (value_of writer_numbers ns r)
+  pub given_spent : {x : ObjectWriter} (f : Fuse) (r : Stored) (y : ObjectWriter) (after : List ℕ) (n v : ℕ) (w : List ℕ)
+      → a ≡ done x → f ≡ fuse_of fused u → ended_by r y after ≡ run f (o g x) s → n ≡ stored_number r → v ≡ units_after r u
+      → w ≡ left_by (stored_number r) (unless_stored r ns (writer_numbers y))
       → crossed_with n v after w ≡ spent_after (crossing_with writer_numbers u ns (run (fuse_of fused u) (given g a o) s))
   unfolding spent_after
-  given_spent f r after n v w d ef er en ev ew =
-      ap (λ (l : List ℕ). crossed_with n v after l) (ew ∙ ap (λ (m : ℕ). left_by m (value_of writer_numbers ns r)) (sym en))
-      ∙ ap spent_after (given_handed g a o writer_numbers fused u ns s f r after n v (value_of writer_numbers ns r) d ef er en ev refl)
+  given_spent f r y after n v w d ef er en ev ew =
+      ap (λ (l : List ℕ). crossed_with n v after l) (ew ∙ ap (λ (m : ℕ). left_by m (unless_stored r ns (writer_numbers y))) (sym en))
+      ∙ ap spent_after (given_beside g a o fused u ns s f r y after n v (unless_stored r ns (writer_numbers y)) d ef er en ev refl)
 
   pub none_spent : {m n : ℕ} → ((j : ℕ) → a ≡ refused j → j < 8) → a ≡ refused m → n ≡ admit g (length s) m
       → crossed_with n u s ns ≡ spent_after (crossing_with writer_numbers u ns (run (fuse_of fused u) (given g a o) s))

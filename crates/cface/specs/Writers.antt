@@ -1,8 +1,7 @@
 -- Writers that cross as numbers: header, cursor, held, the four numbers of the tail, spent. "A writer … comes back as it went in, except a
 -- writer after 8, which is spent."
-use Rattle.std.specs.Prelude.{ℕ, ◌<◌, ◌&&◌, List, [], ◌∷◌, ◌++◌, get_or, set, leb, eqb, Result, Ok, Err}
-use Rattle.medium.specs.declared.fuse.Fuse.{Fuse}
-use Rattle.medium.specs.declared.fuse.Stopped.{Stopped}
+use Rattle.std.specs.Prelude.{ℕ, ◌<◌, ◌&&◌, List, [], ◌∷◌, ◌++◌, get_or, set, leb, eqb, Ok, Err}
+use Rattle.medium.specs.Fuse.{Stored}
 use Rattle.medium.specs.Granularity.{pick}
 use Rattle.medium.specs.Operation.{Answer, done, and_then, or_refuse}
 use Rattle.objects.specs.declared.header.ObjectHeader.{ObjectHeader}
@@ -45,9 +44,9 @@ writer_numbers w = header_numbers w.object ++ (w.cursor ∷ w.held ∷ tail_numb
 abbrev pub Small : ObjectWriter → Type 0
 Small w = (w.cursor < 4294967296) × (w.held < 4294967296)
 
-abbrev pub SmallBy : Result (ObjectWriter × Fuse) Stopped → Type 0
-SmallBy (Ok x) = Small x.0
-SmallBy (Err s) = Unit {0}
+abbrev pub SmallBy : Stored → ObjectWriter → Type 0
+SmallBy (Ok f) w = Small w
+SmallBy (Err s) w = Unit {0}
 
 -- after 8 the last number says that the writer is spent
 abbrev pub left_by : ℕ → List ℕ → List ℕ

@@ -39,7 +39,7 @@ pub extern "C" fn stumpchoir_writer_allocate(
         offset: offset,
     };
     let f = call::fuse_of(fused, units);
-    let a = ObjectWriter::try_allocate(g, image, f, at, t);
+    let a = ObjectWriter::allocate(g, image, f, at, t);
     writers::hand_out(a, units, writer)
 }
 
@@ -116,7 +116,7 @@ pub extern "C" fn stumpchoir_writer_write(
         Err(e) => return call::refusal(g, image.len(), e.number()),
     };
     let f = call::fuse_of(fused, units);
-    let a = w.try_write(g, image, f, src);
+    let a = w.write(g, image, f, src);
     writers::hand_back(a, units, writer)
 }
 
@@ -137,7 +137,7 @@ pub extern "C" fn stumpchoir_writer_finalize(
         Err(e) => return call::refusal(g, image.len(), e.number()),
     };
     let f = call::fuse_of(fused, units);
-    let a = w.try_finalize(g, image, f);
+    let a = w.finalize(g, image, f);
     writers::hand_back(a, units, writer)
 }
 
@@ -159,6 +159,6 @@ pub extern "C" fn stumpchoir_writer_delete(
         Err(e) => return call::refusal(g, image.len(), e.number()),
     };
     let f = call::fuse_of(fused, units);
-    let a = w.try_delete(g, image, f);
+    let a = w.delete(g, image, f);
     writers::hand_back(a, units, writer)
 }

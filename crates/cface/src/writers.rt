@@ -1,6 +1,7 @@
 // Writers that cross as twelve numbers: header, cursor, held, the four numbers of the tail, spent. Numbers that no writer has give 4.
 ghost use Rattle.std.specs.Prelude.{◌≡◌};
 ghost use Rattle.medium.specs.Fuse.{stored_number};
+ghost use Rattle.medium.specs.Operation.{unless_stored};
 ghost use Rattle.medium.specs.Refusal.{answer_of, code_of};
 ghost use Rattle.crossing.specs.Crossing.{units_after, left_of, value_of, plain};
 ghost use Rattle.cface.specs.Writers.{sayable_of, writer_of, writer_numbers, Small, SmallBy, left_by};
@@ -8,7 +9,7 @@ ghost use Rattle.cface.specs.Writers.{sayable_of, writer_of, writer_numbers, Sma
 use crossing::{call, outs, values};
 use medium::fuse::Ended;
 use medium::refusal::Refusal;
-use writer::writer::ObjectWriter;
+use writer::writer::{ObjectWriter, Writing};
 
 // A header, counts that the library tests, and numbers that are bytes and a flag.
 #[tactic(auto, unfolding(crate::specs::Writers::writer_of), using(medium::proofs::Refusals::passed, medium::proofs::Refusals::not_done, objects::proofs::Answers::gate_on, objects::proofs::Answers::gate_stop, crate::proofs::Counts::sayable_is))]
@@ -61,27 +62,24 @@ pub(crate) fn put_writer(w: ObjectWriter, out: &mut [u32; 12])
 }
 
 // The answer of a store of a writer: number and units, and the writer where it is done.
-pub(crate) fn hand_out(answer: Ended<ObjectWriter>, units: &mut u32, out: &mut [u32; 12]) -> u8
-    requires { SmallBy answer }
-    ensures value { result ≡ stored_number (left_of answer) }
-    ensures units_after { units.new ≡ units_after (left_of answer) units.old }
-    ensures out_after { out.new ≡ value_of writer_numbers out.old answer }
+pub(crate) fn hand_out(answer: Writing, units: &mut u32, out: &mut [u32; 12]) -> u8
+    requires { SmallBy answer.answer answer.writer }
+    ensures value { result ≡ stored_number answer.answer }
+    ensures units_after { units.new ≡ units_after answer.answer units.old }
+    ensures out_after { out.new ≡ unless_stored answer.answer out.old (writer_numbers answer.writer) }
 {
-    match answer {
-        Ok((w, fuse)) => {
-            put_writer(w, out);
-            call::hand_back(Ok(fuse), units)
-        }
-        Err(stopped) => call::hand_back(Err(stopped), units),
+    if answer.answer.is_ok() {
+        put_writer(answer.writer, out);
     }
+    call::hand_back(answer.answer, units)
 }
 
 // The same of a writer that came in: after 8 its last number says that it is spent.
-pub(crate) fn hand_back(answer: Ended<ObjectWriter>, units: &mut u32, out: &mut [u32; 12]) -> u8
-    requires { SmallBy answer }
-    ensures value { result ≡ stored_number (left_of answer) }
-    ensures units_after { units.new ≡ units_after (left_of answer) units.old }
-    ensures out_after { out.new ≡ left_by (stored_number (left_of answer)) (value_of writer_numbers out.old answer) }
+pub(crate) fn hand_back(answer: Writing, units: &mut u32, out: &mut [u32; 12]) -> u8
+    requires { SmallBy answer.answer answer.writer }
+    ensures value { result ≡ stored_number answer.answer }
+    ensures units_after { units.new ≡ units_after answer.answer units.old }
+    ensures out_after { out.new ≡ left_by (stored_number answer.answer) (unless_stored answer.answer out.old (writer_numbers answer.writer)) }
 {
     let n = hand_out(answer, units, out);
     spend(n, out);

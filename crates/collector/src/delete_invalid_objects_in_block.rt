@@ -100,13 +100,32 @@ fn delete_from(
     Ok(fuse)
 }
 
+// By the kind in the record: 2 for an Unknown one, and nothing to do in an Empty one.
+fn delete_invalid_objects_in_block(
+    g: Geometry,
+    image: &mut [u8],
+    table: &mut [u32],
+    f: Fuse,
+    b: u32,
+    info: BlockInfo,
+) -> Stored
+    requires has_record { HasRecord table.old b }
+    requires image_value { check_of g (length image.old) ≡ 0 }
+    ensures { ended result (both image.new table.new) ≡ run f (delete_invalid_objects_in_block g b info) (both image.old table.old) }
+{
+    match info.header.kind {
+        BlockHeaderKind::Unknown => f.beside(Err(Refusal::FsCorrupted)),
+        BlockHeaderKind::Empty => Ok(f),
+        BlockHeaderKind::Known(_) => delete_from(g, image, table, f, b, info.used_bytes),
+    }
+}
+
 #[derive(Clone, Copy, Debug, PartialEq, Eq)]
 pub(crate) struct DeleteInvalidObjects;
 
 impl Pass for DeleteInvalidObjects {
     ghost step = { delete_invalid_objects_in_block };
 
-    // By the kind in the record: 2 for an Unknown one, and nothing to do in an Empty one.
     fn step(
         self,
         g: Geometry,
@@ -116,10 +135,6 @@ impl Pass for DeleteInvalidObjects {
         b: u32,
         info: BlockInfo,
     ) -> Stored {
-        match info.header.kind {
-            BlockHeaderKind::Unknown => f.beside(Err(Refusal::FsCorrupted)),
-            BlockHeaderKind::Empty => Ok(f),
-            BlockHeaderKind::Known(_) => delete_from(g, image, table, f, b, info.used_bytes),
-        }
+        delete_invalid_objects_in_block(g, image, table, f, b, info)
     }
 }

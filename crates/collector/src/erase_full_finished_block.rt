@@ -1,8 +1,11 @@
 // The third pass in one block: what is deleted altogether is erased.
 ghost use Rattle.std.specs.Prelude.{◌≡◌, length};
 ghost use Rattle.medium.specs.Geometry.{check_of};
+ghost use Rattle.medium.specs.Operation.{run, ended};
+ghost use Rattle.medium.specs.Beside.{both};
 ghost use Rattle.medium.specs.Refusal.{answer_of};
 ghost use Rattle.objects.specs.Listing.{listing};
+ghost use Rattle.collector.specs.Table.{HasRecord};
 ghost use Rattle.collector.specs.Passes.{deleted_in, erase_full_finished_block};
 
 use crate::erasing;
@@ -30,13 +33,36 @@ fn find_deleted(g: Geometry, image: &[u8], b: u32) -> Result<bool, Refusal>
     Ok(true)
 }
 
+// Formatted where all objects are deleted. A block that is used up to its last header is passed over.
+fn erase_full_finished_block(
+    g: Geometry,
+    image: &mut [u8],
+    table: &mut [u32],
+    f: Fuse,
+    b: u32,
+    info: BlockInfo,
+) -> Stored
+    requires has_record { HasRecord table.old b }
+    requires image_value { check_of g (length image.old) ≡ 0 }
+    ensures { ended result (both image.new table.new) ≡ run f (erase_full_finished_block g b info) (both image.old table.old) }
+{
+    let k = g.granularity;
+    if (g.size as usize) - k.object_header(g.s) <= (info.used_bytes as usize) {
+        return Ok(f);
+    }
+    let found = f.beside(find_deleted(g, image, b))?;
+    if !found {
+        return Ok(f);
+    }
+    erasing::erase(g, image, table, f, b, info)
+}
+
 #[derive(Clone, Copy, Debug, PartialEq, Eq)]
 pub(crate) struct EraseFullFinishedBlocks;
 
 impl Pass for EraseFullFinishedBlocks {
     ghost step = { erase_full_finished_block };
 
-    // Formatted where all objects are deleted. A block that is used up to its last header is passed over.
     fn step(
         self,
         g: Geometry,
@@ -46,14 +72,6 @@ impl Pass for EraseFullFinishedBlocks {
         b: u32,
         info: BlockInfo,
     ) -> Stored {
-        let k = g.granularity;
-        if (g.size as usize) - k.object_header(g.s) <= (info.used_bytes as usize) {
-            return Ok(f);
-        }
-        let found = f.beside(find_deleted(g, image, b))?;
-        if !found {
-            return Ok(f);
-        }
-        erasing::erase(g, image, table, f, b, info)
+        erase_full_finished_block(g, image, table, f, b, info)
     }
 }

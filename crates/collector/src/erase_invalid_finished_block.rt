@@ -1,8 +1,11 @@
 // The second pass in one block: what a power cut left unfinished and alone is erased.
 ghost use Rattle.std.specs.Prelude.{◌≡◌, length};
 ghost use Rattle.medium.specs.Geometry.{check_of};
+ghost use Rattle.medium.specs.Operation.{run, ended};
+ghost use Rattle.medium.specs.Beside.{both};
 ghost use Rattle.medium.specs.Refusal.{answer_of};
 ghost use Rattle.objects.specs.Listing.{list_from, listing};
+ghost use Rattle.collector.specs.Table.{HasRecord};
 ghost use Rattle.collector.specs.Passes.{last_in, unfinished_in, erase_invalid_finished_block};
 
 use crate::erasing;
@@ -44,13 +47,35 @@ fn find_unfinished(g: Geometry, image: &[u8], b: u32) -> Result<bool, Refusal>
     Ok(false)
 }
 
+// Formatted where nothing can be allocated and an unfinished object is all there is.
+fn erase_invalid_finished_block(
+    g: Geometry,
+    image: &mut [u8],
+    table: &mut [u32],
+    f: Fuse,
+    b: u32,
+    info: BlockInfo,
+) -> Stored
+    requires has_record { HasRecord table.old b }
+    requires image_value { check_of g (length image.old) ≡ 0 }
+    ensures { ended result (both image.new table.new) ≡ run f (erase_invalid_finished_block g b info) (both image.old table.old) }
+{
+    if info.allow_alloc {
+        return Ok(f);
+    }
+    let found = f.beside(find_unfinished(g, image, b))?;
+    if !found {
+        return Ok(f);
+    }
+    erasing::erase(g, image, table, f, b, info)
+}
+
 #[derive(Clone, Copy, Debug, PartialEq, Eq)]
 pub(crate) struct EraseInvalidFinishedBlocks;
 
 impl Pass for EraseInvalidFinishedBlocks {
     ghost step = { erase_invalid_finished_block };
 
-    // Formatted where nothing can be allocated and an unfinished object is all there is.
     fn step(
         self,
         g: Geometry,
@@ -60,13 +85,6 @@ impl Pass for EraseInvalidFinishedBlocks {
         b: u32,
         info: BlockInfo,
     ) -> Stored {
-        if info.allow_alloc {
-            return Ok(f);
-        }
-        let found = f.beside(find_unfinished(g, image, b))?;
-        if !found {
-            return Ok(f);
-        }
-        erasing::erase(g, image, table, f, b, info)
+        erase_invalid_finished_block(g, image, table, f, b, info)
     }
 }

@@ -32,8 +32,8 @@ fn print_moment(rt: &HostRuntime, s: u8, fuse: u32, m: Moment) {
         s,
         fuse,
         refusal::number(m.answer),
-        m.original,
-        m.copy,
+        m.original.map_err(Refusal::number),
+        m.copy.map_err(Refusal::number),
         m.agree,
     );
     let _ = rt.stdout().write_all(line.as_bytes());

@@ -35,7 +35,7 @@ fn print_objects(rt: &HostRuntime, g: Geometry, image: &[u8], block: u32) {
 }
 
 fn print_record(rt: &HostRuntime, block: u32, scan: Result<BlockInfo, Refusal>) {
-    let line = lines::block::block_line(block, scan);
+    let line = lines::block::block_line(block, scan.map_err(Refusal::number));
     let _ = rt.stdout().write_all(line.as_bytes());
 }
 

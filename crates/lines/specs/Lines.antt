@@ -1,8 +1,6 @@
 -- The lines. What the inspector prints of a block: "kind, erase count, used bytes, allocation yes or no"; of an object: "block, offset, type, state, payload size or `-` if unset". Refusals: "refused" and 01's
 -- number. What a move under a fuse leaves: fuse, answer, original, copy, and whether they agree.
 use Rattle.std.specs.Prelude.{ℕ, List, [], ◌∷◌, ◌++◌, Bool, Option, Some, None, Result, Ok, Err}
-use Rattle.medium.specs.declared.refusal.Refusal.{Refusal}
-use Rattle.medium.specs.Refusal.{refusal_number}
 use Rattle.objects.specs.declared.header.ObjectHeader.{ObjectHeader}
 use Rattle.objects.specs.declared.state.ObjectState.TheVariants.{Free}
 use Rattle.objects.specs.Types.{state_of}
@@ -40,11 +38,11 @@ record_text r =
     ++ field (yes_no r.allow_alloc)
 
 -- "Refused blocks print that line alone"
-unfoldable pub scan_text : Result BlockInfo Refusal → List ℕ
+unfoldable pub scan_text : Result BlockInfo ℕ → List ℕ
 scan_text (Ok r) = record_text r
-scan_text (Err e) = refusal_text (refusal_number e)
+scan_text (Err k) = refusal_text k
 
-unfoldable pub block_line : ℕ → Result BlockInfo Refusal → List ℕ
+unfoldable pub block_line : ℕ → Result BlockInfo ℕ → List ℕ
 block_line b r = block_word ++ field (digits b) ++ scan_text r ++ newline
 
 -- ---- an object
@@ -85,12 +83,12 @@ abbrev pub agree_word : List ℕ
 agree_word = 97 ∷ 103 ∷ 114 ∷ 101 ∷ 101 ∷ []
 
 abbrev pub Seen : Type 0
-Seen = Result (Option ObjectHeader) Refusal
+Seen = Result (Option ObjectHeader) ℕ
 
 unfoldable pub reading_text : ℕ → Seen → List ℕ
 reading_text s (Ok (Some h)) = header_text s h
 reading_text s (Ok None) = field (state_word Free)
-reading_text s (Err e) = refusal_text (refusal_number e)
+reading_text s (Err k) = refusal_text k
 
 abbrev pub call_text : ℕ → ℕ → List ℕ
 call_text fuse answer = fuse_word ++ field (digits fuse) ++ field answer_word ++ field (digits answer)

@@ -1,6 +1,5 @@
 -- The three lines of 01's example, and one of a cut map, computed from the definitions that the contracts cite.
 use Rattle.std.specs.Prelude.{◌≡◌, refl, [], ◌∷◌, true, false, Some, Ok, Err}
-use Rattle.medium.specs.declared.refusal.Refusal.TheVariants.{NotFormatted}
 use Rattle.objects.specs.declared.types.ObjectType.TheVariants.{FileData}
 use Rattle.objects.specs.declared.state.ObjectDataState.TheVariants.{Untrusted, Valid}
 use Rattle.objects.specs.declared.state.CompositeObjectState.TheVariants as comp
@@ -30,7 +29,7 @@ pub record Rows : Type 0 where
   -- object 0 8 FileData Finalized 3
   pub object : object_line 1 row ≡ 111 ∷ 98 ∷ 106 ∷ 101 ∷ 99 ∷ 116 ∷ 32 ∷ 48 ∷ 32 ∷ 56 ∷ 32 ∷ 70 ∷ 105 ∷ 108 ∷ 101 ∷ 68 ∷ 97 ∷ 116 ∷ 97 ∷ 32 ∷ 70 ∷ 105 ∷ 110 ∷ 97 ∷ 108 ∷ 105 ∷ 122 ∷ 101 ∷ 100 ∷ 32 ∷ 51 ∷ 10 ∷ []
   -- block 1 refused 1
-  pub refused : block_line 1 (Err NotFormatted) ≡ 98 ∷ 108 ∷ 111 ∷ 99 ∷ 107 ∷ 32 ∷ 49 ∷ 32 ∷ 114 ∷ 101 ∷ 102 ∷ 117 ∷ 115 ∷ 101 ∷ 100 ∷ 32 ∷ 49 ∷ 10 ∷ []
+  pub refused : block_line 1 (Err 1) ≡ 98 ∷ 108 ∷ 111 ∷ 99 ∷ 107 ∷ 32 ∷ 49 ∷ 32 ∷ 114 ∷ 101 ∷ 102 ∷ 117 ∷ 115 ∷ 101 ∷ 100 ∷ 32 ∷ 49 ∷ 10 ∷ []
   -- fuse 4 answer 8 original FileData Finalized 3 copy FileData Allocated - agree no
   pub moment :
       moment_line 1 4 8 (Ok (Some row)) (Ok (Some unfinished)) false

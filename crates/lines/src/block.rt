@@ -7,7 +7,6 @@ use crate::line::Line;
 use crate::{number, refusal, words};
 use blocks::header::{BlockHeaderKind, BlockType};
 use blocks::record::BlockInfo;
-use medium::refusal::Refusal;
 
 #[tactic(auto, unfolding(crate::specs::Words::block_type_word))]
 fn put_block_type(line: &mut Line, t: BlockType)
@@ -48,21 +47,22 @@ fn put_record(line: &mut Line, info: BlockInfo)
 }
 
 #[tactic(auto, unfolding(crate::specs::Lines::scan_text))]
-fn put_scan(line: &mut Line, scan: Result<BlockInfo, Refusal>)
+fn put_scan(line: &mut Line, scan: Result<BlockInfo, u8>)
     requires { length line.old + 36 ≤ 128 }
     ensures put { line.new ≡ line.old ++ scan_text scan }
     ensures upper_bound { length line.new ≤ length line.old + 36 }
 {
     match scan {
         Ok(info) => put_record(line, info),
-        Err(e) => refusal::put_refusal(line, e),
+        Err(k) => refusal::put_refusal(line, k),
     }
 }
 
 // "block", its number, and what a scan of it gave.
 #[tactic(auto, unfolding(crate::specs::Lines::block_line))]
-pub fn block_line(block: u32, scan: Result<BlockInfo, Refusal>) -> Line
-    ensures { result ≡ block_line block scan }
+pub fn block_line(block: u32, scan: Result<BlockInfo, u8>) -> Line
+    ensures value { result ≡ block_line block scan }
+    ensures fits { length result ≤ 128 }
 {
     let mut line = Line::new();
     line.put(b"block");

@@ -6,11 +6,10 @@ ghost use Rattle.lines.specs.Lines.{reading_text, call_text, pair_text, agree_te
 use crate::line::Line;
 use crate::refusal::put_refusal;
 use crate::{number, object, words};
-use medium::refusal::Refusal;
 use objects::header::ObjectHeader;
 
 // What stands at a place: an object, nothing, or bytes that are no header.
-pub type Seen = Result<Option<ObjectHeader>, Refusal>;
+pub type Seen = Result<Option<ObjectHeader>, u8>;
 
 // At which fuses there are two whole objects.
 #[derive(Clone, Copy, Debug, PartialEq, Eq)]
@@ -29,7 +28,7 @@ fn put_reading(line: &mut Line, s: u8, seen: Seen)
     match seen {
         Ok(Some(h)) => object::put_header(line, s, h),
         Ok(None) => line.put(b" Free"),
-        Err(e) => put_refusal(line, e),
+        Err(k) => put_refusal(line, k),
     }
 }
 
@@ -70,7 +69,8 @@ fn put_agreement(line: &mut Line, agree: bool)
 // "fuse", "answer", "original", "copy", "agree".
 #[tactic(auto, unfolding(crate::specs::Lines::moment_line))]
 pub fn moment_line(s: u8, fuse: u32, answer: u8, original: Seen, copy: Seen, agree: bool) -> Line
-    ensures { result ≡ moment_line s fuse answer original copy agree }
+    ensures value { result ≡ moment_line s fuse answer original copy agree }
+    ensures fits { length result ≤ 128 }
 {
     let mut line = Line::new();
     put_call(&mut line, fuse, answer);
@@ -82,7 +82,8 @@ pub fn moment_line(s: u8, fuse: u32, answer: u8, original: Seen, copy: Seen, agr
 // The moment of the twin.
 #[tactic(auto, unfolding(crate::specs::Lines::twin_line))]
 pub fn twin_line(twin: Twin) -> Line
-    ensures { result ≡ twin_line twin }
+    ensures value { result ≡ twin_line twin }
+    ensures fits { length result ≤ 128 }
 {
     let mut line = Line::new();
     match twin {
@@ -96,7 +97,8 @@ pub fn twin_line(twin: Twin) -> Line
 #[tactic(auto, unfolding(crate::specs::Lines::twin_line))]
 fn put_twin_at(line: &mut Line, n: u32)
     requires { length line.old ≡ 0 }
-    ensures { line.new ≡ line.old ++ twin_line (At n) }
+    ensures put { line.new ≡ line.old ++ twin_line (At n) }
+    ensures upper_bound { length line.new ≤ length line.old + 24 }
 {
     line.put(b"twin at fuse");
     number::put_field(line, n);
@@ -106,7 +108,8 @@ fn put_twin_at(line: &mut Line, n: u32)
 #[tactic(auto, unfolding(crate::specs::Lines::twin_span))]
 fn put_twin_span(line: &mut Line, a: u32, b: u32)
     requires { length line.old ≡ 0 }
-    ensures { line.new ≡ line.old ++ twin_span a b }
+    ensures put { line.new ≡ line.old ++ twin_span a b }
+    ensures upper_bound { length line.new ≤ length line.old + 40 }
 {
     line.put(b"twin from fuse");
     number::put_field(line, a);

@@ -30,7 +30,8 @@ fn put_place(line: &mut Line, h: ObjectHeader)
 // "object", block, offset, type, state, payload size or `-`.
 #[tactic(auto, unfolding(crate::specs::Lines::object_line))]
 pub fn object_line(s: u8, h: ObjectHeader) -> Line
-    ensures { result ≡ object_line s h }
+    ensures value { result ≡ object_line s h }
+    ensures fits { length result ≤ 128 }
 {
     let mut line = Line::new();
     line.put(b"object");

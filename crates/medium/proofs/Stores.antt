@@ -5,10 +5,10 @@ use Prim.Native.Nat.{ℕ, zero, suc, ◌+◌, ◌-◌, ◌*◌, ◌≤◌, ◌<�
 use native.Mathlib.Nat.{le_refl, not-suc-le-zero, le_of_suc-le-suc, mul-le-mul_right, one-mul, zero-mul}
 use native.Mathlib.Numerals.{add-one}
 use native.Mathlib.Omega.{arith}
-use mathlib.Core.List.{List, [], ◌∷◌, ◌++◌}
+use mathlib.Core.List.{List, [], ◌∷◌, ◌++◌, append-nil}
 use mathlib.Core.Bool.{Bool, true, false}
 use lib.ListN.{length, get_or, take, drop, set, length-take, length-drop, replicate}
-use lib.Seq.{take_all}
+use lib.Seq.{take-take, drop-length, take_all}
 use lib.Dec.{leb}
 use lib.Bits.{bit_and}
 use borrow.Author.Tests.{leb-false, eq-eqb, ne_eqb}
@@ -197,3 +197,9 @@ erase_run g b img e = rw e
 pub read_done : (g : Geometry) (image : List ℕ) (b o n r : ℕ) (after : List ℕ) → r ≡ readable g (length image) b o n → r ≡ 0 → after ≡ take n (drop (b * g.size + o) image) → done after ≡ read_at g b o n image
 unfolding read_at
 read_done g image b o n r after e z ea = rw (← e, eq-eqb r 0 z, ea)
+
+-- the buffer that a read fills
+pub copied : (a k : ℕ) (image buffer last : List ℕ) → k ≡ length buffer → a + length buffer ≤ length image → last ≡ take (length (take k (drop a image))) (take k (drop a image)) ++ drop (length (take k (drop a image))) buffer → last ≡ take (length buffer) (drop a image)
+copied a k image buffer last e h q =
+    let l : length (take (length buffer) (drop a image)) ≡ length buffer = simp (length-take, length-drop) (omega arith) in
+    q ∙ rw (e, l, take-take (length buffer) (length buffer) (drop a image) (le_refl (length buffer)), drop-length buffer) (append-nil (take (length buffer) (drop a image)))

@@ -13,6 +13,13 @@ use Rattle.crossing.proofs.call.refusal.Reads as call-refusal
 use Rattle.crossing.proofs.call.refusal_alone.Reads as call-refusal_alone
 use Rattle.crossing.proofs.call.fuse_of.Reads as call-fuse_of
 use Rattle.crossing.proofs.call.hand_back.Reads as call-hand_back
+use Rattle.crossing.proofs.hand.ObjectHeaderCrosses.numbers.Reads as hand-ObjectHeaderCrosses-numbers
+use Rattle.crossing.proofs.hand.ObjectLocationCrosses.numbers.Reads as hand-ObjectLocationCrosses-numbers
+use Rattle.crossing.proofs.hand.ObjectIteratorCrosses.numbers.Reads as hand-ObjectIteratorCrosses-numbers
+use Rattle.crossing.proofs.hand.BlockHeaderCrosses.numbers.Reads as hand-BlockHeaderCrosses-numbers
+use Rattle.crossing.proofs.hand.BlockInfoCrosses.numbers.Reads as hand-BlockInfoCrosses-numbers
+use Rattle.crossing.proofs.hand.BoolCrosses.numbers.Reads as hand-BoolCrosses-numbers
+use Rattle.crossing.proofs.hand.UsizeCrosses.numbers.Reads as hand-UsizeCrosses-numbers
 use Rattle.crossing.proofs.hand.hand.Reads as hand-hand
 use Rattle.crossing.proofs.outs.hand_back.Reads as outs-hand_back
 use Rattle.crossing.proofs.outs.hand_info.Reads as outs-hand_info
@@ -42,6 +49,27 @@ call_fuse_of_one _ _ r r' e e' p q = p ∙ sym q
 
 pub call_hand_back_one : One call-hand_back.Post (λ _ r e r' e'. (r ≡ r') × (e.1.0.now ≡ e'.1.0.now))
 call_hand_back_one _ _ r r' e e' p q = (p.0 ∙ sym q.0, p.1 ∙ sym q.1)
+
+pub hand_ObjectHeaderCrosses_numbers_one : One hand-ObjectHeaderCrosses-numbers.Post (λ _ r e r' e'. r ≡ r')
+hand_ObjectHeaderCrosses_numbers_one _ _ r r' e e' p q = p ∙ sym q
+
+pub hand_ObjectLocationCrosses_numbers_one : One hand-ObjectLocationCrosses-numbers.Post (λ _ r e r' e'. r ≡ r')
+hand_ObjectLocationCrosses_numbers_one _ _ r r' e e' p q = p ∙ sym q
+
+pub hand_ObjectIteratorCrosses_numbers_one : One hand-ObjectIteratorCrosses-numbers.Post (λ _ r e r' e'. r ≡ r')
+hand_ObjectIteratorCrosses_numbers_one _ _ r r' e e' p q = p ∙ sym q
+
+pub hand_BlockHeaderCrosses_numbers_one : One hand-BlockHeaderCrosses-numbers.Post (λ _ r e r' e'. r ≡ r')
+hand_BlockHeaderCrosses_numbers_one _ _ r r' e e' p q = p ∙ sym q
+
+pub hand_BlockInfoCrosses_numbers_one : One hand-BlockInfoCrosses-numbers.Post (λ _ r e r' e'. r ≡ r')
+hand_BlockInfoCrosses_numbers_one _ _ r r' e e' p q = p ∙ sym q
+
+pub hand_BoolCrosses_numbers_one : One hand-BoolCrosses-numbers.Post (λ _ r e r' e'. r ≡ r')
+hand_BoolCrosses_numbers_one _ _ r r' e e' p q = p ∙ sym q
+
+pub hand_UsizeCrosses_numbers_one : One hand-UsizeCrosses-numbers.Post (λ _ r e r' e'. r ≡ r')
+hand_UsizeCrosses_numbers_one _ _ r r' e e' p q = p ∙ sym q
 
 pub hand_hand_one : (T N : RattleType) (l : Laws T) (m : Laws N) (c : IsCopy T) (k : IsCopy N) (x : crosses.Ghosts T.Denot N.Denot) (b : Dict) (g : Ghosts T.Denot) (d : Dict) (h : Ghosts N.Denot) (i : Dict) → One (hand-hand.Post T N l m c k x b g d h i) (λ _ r e r' e'. (r ≡ r') × (e.1.0.now ≡ e'.1.0.now))
 hand_hand_one T N l m c k x b g d h i _ _ r r' e e' p q = let s = p ∙ sym q in (ap (λ (z : Telling _). z.number) s, ap (λ (z : Telling _). z.out) s)

@@ -13,19 +13,19 @@ pub argument_number_of_one : One argument-number_of.Post (λ _ r e r' e'. r ≡ 
 argument_number_of_one _ _ r r' e e' p q = p ∙ sym q
 
 pub block_block_line_one : One block-block_line.Post (λ _ r e r' e'. r ≡ r')
-block_block_line_one _ _ r r' e e' p q = p ∙ sym q
+block_block_line_one _ _ r r' e e' p q = p.0 ∙ sym q.0
 
 pub line_Line_as_bytes_one : One line-Line-as_bytes.Post (λ _ r e r' e'. r.now ≡ r'.now)
-line_Line_as_bytes_one _ _ r r' e e' p q = p ∙ sym q
+line_Line_as_bytes_one _ _ r r' e e' p q = p.0 ∙ sym q.0
 
 pub moment_moment_line_one : One moment-moment_line.Post (λ _ r e r' e'. r ≡ r')
-moment_moment_line_one _ _ r r' e e' p q = p ∙ sym q
+moment_moment_line_one _ _ r r' e e' p q = p.0 ∙ sym q.0
 
 pub moment_twin_line_one : One moment-twin_line.Post (λ _ r e r' e'. r ≡ r')
-moment_twin_line_one _ _ r r' e e' p q = p ∙ sym q
+moment_twin_line_one _ _ r r' e e' p q = p.0 ∙ sym q.0
 
 pub object_object_line_one : One object-object_line.Post (λ _ r e r' e'. r ≡ r')
-object_object_line_one _ _ r r' e e' p q = p ∙ sym q
+object_object_line_one _ _ r r' e e' p q = p.0 ∙ sym q.0
 
 pub refusal_refusal_line_one : One refusal-refusal_line.Post (λ _ r e r' e'. r ≡ r')
-refusal_refusal_line_one _ _ r r' e e' p q = p ∙ sym q
+refusal_refusal_line_one _ _ r r' e e' p q = p.0 ∙ sym q.0

@@ -2,7 +2,7 @@ use mathlib.Core.Path.{sym, ◌∙◌}
 use Rattle.medium.proofs.Refusals.{passed}
 use Rattle.objects.proofs.Tested.{asked_on, asked_stop}
 use Rattle.collector.proofs.Findings.{invalid_skip, invalid_look, erase_kept}
-use Rattle.collector.proofs.erase_invalid_finished_block.EraseInvalidFinishedBlocksPass.step.Goals as goal
+use Rattle.collector.proofs.erase_invalid_finished_block.erase_invalid_finished_block.Goals as goal
 
 pub returns-then-info : goal.returns-then-info
 returns-then-info c = sym (invalid_skip _ _ _ _ _ _ c.if-info.true)

@@ -2,7 +2,7 @@ use mathlib.Core.Path.{sym, ◌∙◌}
 use Rattle.medium.specs.Beside.{beside}
 use Rattle.medium.proofs.Runs.{run_ask_in}
 use Rattle.collector.proofs.Repairs.{delete_by_lem}
-use Rattle.collector.proofs.delete_invalid_objects_in_block.DeleteInvalidObjectsPass.step.Goals as goal
+use Rattle.collector.proofs.delete_invalid_objects_in_block.delete_invalid_objects_in_block.Goals as goal
 
 pub returns-in-Unknown : goal.returns-in-Unknown
 returns-in-Unknown c = rw c.beside.ensures (sym (delete_by_lem _ _ _ _ _ _ c.in-Unknown.is ∙ run_ask_in beside _ _ _))
