@@ -46,6 +46,11 @@ def clauses(text, at):
     return found, None
 
 
+def in_name(kind):
+    """A type as the kit writes it into a name: [u32; 6] is ArrayU326."""
+    return ''.join(w[0].upper() + w[1:] for w in re.findall(r'\w+', f'Array {kind}' if kind.startswith('[') else kind))
+
+
 CONVERSION = re.compile(r'^impl (From|TryFrom)<([^>]*)> for (\w+) \{\n(.*?)^\}', re.M | re.S)
 
 
@@ -54,19 +59,19 @@ def conversions(home, text):
     for trait, source, target, body in CONVERSION.findall(text):
         put, got, says = re.search(r'_gives = \{ λ (\w+) (\w+)\. (.*) \};', body).groups()
         told = re.sub(rf'(?<![\w.]){got}(?![\w.])', 'result', says)
-        word = lambda kind: ''.join(w[0].upper() + w[1:] for w in re.findall(r'\w+', f'Array {kind}' if kind.startswith('[') else kind))
         method = {'From': 'from', 'TryFrom': 'try_from'}[trait]
-        yield Function('::'.join(home + [word(target) + trait + word(source), method]), [('ensures', '', told)], [(put, source)], True)
+        yield Function('::'.join(home + [in_name(target) + trait + in_name(source), method]), [('ensures', '', told)], [(put, source)], True)
 
 
 TRAIT = re.compile(r'^pub trait (\w+)[^{]*\{\n(.*?)^\}', re.M | re.S)
-METHOD = re.compile(r'^    fn (\w+)\(', re.M)
-IMPL = re.compile(r'^impl (\w+) for (\w+) \{\n(.*?)^\}', re.M | re.S)
+METHOD = re.compile(r'^    (?:unsafe )?fn (\w+)', re.M)
+IMPL = re.compile(r'^impl(?:<[^{]*?>)? (?:\w+::)*(\w+) for ([^{]+?) \{\n(.*?)^\}', re.M | re.S)
 
 
-def traits(whole):
-    """The public traits of a crate: name -> its methods, each with its clauses."""
-    return {name: {m[1]: clauses(body, m.end())[0] for m in METHOD.finditer(body)} for name, body in TRAIT.findall(whole)}
+def traits():
+    """The public traits of the libraries: name -> its methods, each with its clauses."""
+    texts = (code(read(f)) for crate in libraries() for f in sorted(glob.glob(f'crates/{crate}/src/**/*.rt', recursive=True)))
+    return {name: {m[1]: clauses(body, m.end())[0] for m in METHOD.finditer(body)} for text in texts for name, body in TRAIT.findall(text)}
 
 
 def methods(home, text, known):
@@ -75,7 +80,7 @@ def methods(home, text, known):
         ghosts = dict(re.findall(r'^    ghost (\w+) = \{ (.*) \};', body, re.M))
         for method, told in known.get(trait, {}).items():
             says = [(k, name, re.sub(r'\b\w+\b', lambda w: ghosts.get(w[0], w[0]), clause)) for k, name, clause in told]
-            yield Function('::'.join(home + [kind[0].upper() + kind[1:] + trait, method]), says, [('self', kind)], True)
+            yield Function('::'.join(home + [in_name(kind) + trait, method]), says, [('self', kind)], True)
 
 
 def libraries():
@@ -89,7 +94,7 @@ def public(crate, hidden=False):
     whole = '\n'.join(texts.values())
     closed = set(re.findall(r'(?<!pub )\bmod\s+(\w+)\s*;', whole))
     again = ' '.join(re.findall(r'\bpub use\s([^;]*);', whole))
-    known = traits(whole)
+    known = traits()
     for file, text in texts.items():
         below = os.path.relpath(file, f'crates/{crate}/src')[:-3].split(os.sep)
         home = [] if below == ['lib'] else below

@@ -101,7 +101,7 @@ fn delete_from(
 }
 
 // By the kind in the record: 2 for an Unknown one, and nothing to do in an Empty one.
-fn delete_invalid_objects_in_block(
+pub(crate) fn delete_invalid_objects_in_block(
     g: Geometry,
     image: &mut [u8],
     table: &mut [u32],

@@ -34,7 +34,7 @@ fn find_deleted(g: Geometry, image: &[u8], b: u32) -> Result<bool, Refusal>
 }
 
 // Formatted where all objects are deleted. A block that is used up to its last header is passed over.
-fn erase_full_finished_block(
+pub(crate) fn erase_full_finished_block(
     g: Geometry,
     image: &mut [u8],
     table: &mut [u32],

@@ -48,7 +48,7 @@ fn find_unfinished(g: Geometry, image: &[u8], b: u32) -> Result<bool, Refusal>
 }
 
 // Formatted where nothing can be allocated and an unfinished object is all there is.
-fn erase_invalid_finished_block(
+pub(crate) fn erase_invalid_finished_block(
     g: Geometry,
     image: &mut [u8],
     table: &mut [u32],
