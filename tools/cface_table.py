@@ -36,13 +36,14 @@ VALUES = {
     'writer': value('w', 'writers::writer_of(writer)', 'writer_of writer'),
 }
 
-# ---- how an answer goes out: the function that hands it, and how its value crosses
+# ---- how an answer goes out: the function that hands it, and how its value crosses. `told` gives a refusal's number,
+# where the function takes that
 
 HANDS = {
-    'stored': dict(code='call::hand_back'),
+    'stored': dict(code='call::hand_back', told='Told::from'),
     'batched': dict(code='batches::hand_back'),
     'swept': dict(code='sweeps::hand_back'),
-    'headed': {'code': 'outs::hand_back', 'as': 'header_numbers'},
+    'headed': {'code': 'outs::hand_back', 'as': 'header_numbers', 'told': 'Told::from'},
     # a writer stands beside its answer, so its law is another than given_handed; the numbers of one that came in say after 8 that it is spent
     'new_writer': {'code': 'writers::hand_out', 'as': 'writer_numbers', 'law': 'given_beside'},
     'writer': {'code': 'writers::hand_back', 'as': 'writer_numbers', 'law': 'given_spent', 'spent': True},
@@ -52,9 +53,9 @@ HANDS = {
     'record': {'code': 'hand::hand', 'as': 'record_numbers'},
     'block_header': {'code': 'hand::hand', 'as': 'block_header_numbers'},
     'header': {'code': 'hand::hand', 'as': 'header_numbers'},
-    'info': {'code': 'outs::hand_info', 'by': 'info_out'},
+    'info': {'code': 'outs::hand_info', 'by': 'info_out', 'told': 'Refusal::number'},
     'location': {'code': 'hand::hand', 'as': 'location_numbers'},
-    'next': {'code': 'outs::hand_next', 'by': 'next_out'},
+    'next': {'code': 'outs::hand_next', 'by': 'next_out', 'told': 'Refusal::number'},
     'reader': {'code': 'cursors::hand_reader', 'as': 'reader_numbers'},
     'metadata': {'code': 'cursors::hand_metadata', 'as': 'metadata_numbers'},
     'next_location': {'code': 'cursors::hand_next', 'by': 'next_location_out'},

@@ -6,6 +6,7 @@ ghost use Rattle.objects.specs.Header.{header_at, update_state, set_payload_size
 ghost use Rattle.crossing.specs.Crossing.{told, telling, geometry_in, crossed_with, crossing_with, fuse_of, given};
 ghost use Rattle.crossing.specs.Values.{header_numbers, located, target_of, header_of};
 
+use crossing::call::Told;
 use crossing::{call, hand, outs, values};
 use objects::header::ObjectHeader;
 use objects::location::ObjectLocation;
@@ -49,7 +50,7 @@ pub extern "C" fn stumpchoir_update_state(
     };
     let f = call::fuse_of(fused, units);
     let a = t.header.update_state(g, image, f, t.state);
-    outs::hand_back(a, units, header)
+    outs::hand_back(a.map_err(Told::from), units, header)
 }
 
 // Stores the low s bytes of a size that is not set yet, or is 10; one that is set is 4.
@@ -71,5 +72,5 @@ pub extern "C" fn stumpchoir_set_payload_size(
     };
     let f = call::fuse_of(fused, units);
     let a = h.set_payload_size(g, image, f, payload_size);
-    outs::hand_back(a, units, header)
+    outs::hand_back(a.map_err(Told::from), units, header)
 }

@@ -8,7 +8,9 @@ ghost use Rattle.objects.specs.Info.{info_at, size_of_object};
 ghost use Rattle.crossing.specs.Crossing.{told, two, telling_by, geometry_in, telling, plain, asked, crossed_with, crossing_with, fuse_of, given};
 ghost use Rattle.crossing.specs.Values.{info_out, located, header_of, header_numbers};
 
+use crossing::call::Told;
 use crossing::{call, hand, outs, values};
+use medium::refusal::Refusal;
 use objects::info;
 use objects::location::ObjectLocation;
 
@@ -30,7 +32,7 @@ pub extern "C" fn stumpchoir_info_read(
         offset: offset,
     };
     let a = info::read(g, image, at);
-    outs::hand_info(a, found, header)
+    outs::hand_info(a.map_err(Refusal::number), found, header)
 }
 
 // Header and payload together, in bytes.
@@ -69,7 +71,7 @@ pub extern "C" fn stumpchoir_info_finalize(
     };
     let f = call::fuse_of(fused, units);
     let a = info::finalize(g, image, f, h);
-    outs::hand_back(a, units, header)
+    outs::hand_back(a.map_err(Told::from), units, header)
 }
 
 // Stores the mark of a Deleted object, or is 10.
@@ -90,5 +92,5 @@ pub extern "C" fn stumpchoir_info_delete(
     };
     let f = call::fuse_of(fused, units);
     let a = info::delete(g, image, f, h);
-    outs::hand_back(a, units, header)
+    outs::hand_back(a.map_err(Told::from), units, header)
 }

@@ -7,6 +7,7 @@ ghost use Rattle.crossing.specs.Crossing.{told, telling, fitting, geometry_in, t
 ghost use Rattle.crossing.specs.Values.{iterator_numbers, next_out, iterator_of};
 
 use crossing::{call, outs, values};
+use medium::refusal::Refusal;
 
 // An iterator right after the header of a block.
 #[unsafe(no_mangle)]
@@ -36,5 +37,5 @@ pub extern "C" fn stumpchoir_iterator_next(
     let g = call::geometry(geometry);
     let i = values::iterator_of(iterator);
     let a = i.next(g, image);
-    outs::hand_next(a, iterator, found, header)
+    outs::hand_next(a.map_err(Refusal::number), iterator, found, header)
 }

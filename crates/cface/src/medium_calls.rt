@@ -7,6 +7,7 @@ ghost use Rattle.medium.specs.Operation.{run};
 ghost use Rattle.crossing.specs.Crossing.{geometry_in, told, telling, plain, crossed, crossing, fuse_of};
 
 use crate::filled;
+use crossing::call::Told;
 use crossing::{call, hand};
 use medium::{geometry, refusal};
 
@@ -60,7 +61,7 @@ pub extern "C" fn stumpchoir_write(
     let g = call::geometry(geometry);
     let f = call::fuse_of(fused, units);
     let a = medium::write(g, image, f, block, offset as usize, src);
-    call::hand_back(a, units)
+    call::hand_back(a.map_err(Told::from), units)
 }
 
 // Sets a block to FF: one unit.
@@ -77,5 +78,5 @@ pub extern "C" fn stumpchoir_erase(
     let g = call::geometry(geometry);
     let f = call::fuse_of(fused, units);
     let a = medium::erase(g, image, f, block);
-    call::hand_back(a, units)
+    call::hand_back(a.map_err(Told::from), units)
 }

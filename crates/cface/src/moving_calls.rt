@@ -9,6 +9,7 @@ ghost use Rattle.crossing.specs.Crossing.{crossed_with, crossing_with, plain, fu
 ghost use Rattle.crossing.specs.Values.{located, header_numbers, header_of};
 
 use crate::writers;
+use crossing::call::Told;
 use crossing::{call, outs, values};
 use objects::location::ObjectLocation;
 use objects::types::ObjectType;
@@ -70,7 +71,7 @@ pub extern "C" fn stumpchoir_copy_object(
     };
     let f = call::fuse_of(fused, units);
     let a = moving::copy_object(g, image, f, h, to);
-    outs::hand_back(a, units, copy)
+    outs::hand_back(a.map_err(Told::from), units, copy)
 }
 
 // The same, and then the object is deleted where it was; 10 of its delete mark leaves both, the copy finished.
@@ -98,5 +99,5 @@ pub extern "C" fn stumpchoir_move_object(
     };
     let f = call::fuse_of(fused, units);
     let a = moving::move_object(g, image, f, h, to);
-    outs::hand_back(a, units, copy)
+    outs::hand_back(a.map_err(Told::from), units, copy)
 }

@@ -6,6 +6,7 @@ ghost use Rattle.medium.specs.Refusal.{answer_of, code_of};
 ghost use Rattle.crossing.specs.Crossing.{units_after, left_of, value_of, plain};
 ghost use Rattle.cface.specs.Writers.{sayable_of, writer_of, writer_numbers, Small, SmallBy, left_by};
 
+use crossing::call::Told;
 use crossing::{call, outs, values};
 use medium::fuse::Ended;
 use medium::refusal::Refusal;
@@ -62,6 +63,7 @@ pub(crate) fn put_writer(w: ObjectWriter, out: &mut [u32; 12])
 }
 
 // The answer of a store of a writer: number and units, and the writer where it is done.
+#[tactic(auto, unfolding(crossing::specs::Crossing::units_after))]
 pub(crate) fn hand_out(answer: Writing, units: &mut u32, out: &mut [u32; 12]) -> u8
     requires { SmallBy answer.answer answer.writer }
     ensures value { result ≡ stored_number answer.answer }
@@ -71,7 +73,7 @@ pub(crate) fn hand_out(answer: Writing, units: &mut u32, out: &mut [u32; 12]) ->
     if answer.answer.is_ok() {
         put_writer(answer.writer, out);
     }
-    call::hand_back(answer.answer, units)
+    call::hand_back(answer.answer.map_err(Told::from), units)
 }
 
 // The same of a writer that came in: after 8 its last number says that it is spent.
@@ -95,16 +97,17 @@ fn spend(n: u8, out: &mut [u32; 12])
 }
 
 // The answer of an object written whole: number and units, and its total size where it is done.
+#[tactic(auto, unfolding(crossing::specs::Crossing::units_after))]
 pub(crate) fn hand_total(answer: Ended<usize>, units: &mut u32, total: &mut u64) -> u8
     ensures value { result ≡ stored_number (left_of answer) }
     ensures units_after { units.new ≡ units_after (left_of answer) units.old }
     ensures total_after { total.new ≡ value_of plain total.old answer }
 {
-    match answer {
+    match answer.map_err(Told::from) {
         Ok((n, fuse)) => {
             *total = n as u64;
             call::hand_back(Ok(fuse), units)
         }
-        Err(stopped) => call::hand_back(Err(stopped), units),
+        Err(told) => call::hand_back(Err(told), units),
     }
 }

@@ -11,6 +11,7 @@ ghost use Rattle.crossing.specs.Records.{block_header_numbers, block_header_of, 
 
 use blocks::header::{BlockHeader, BlockHeaderKind};
 use blocks::{format, scan};
+use crossing::call::Told;
 use crossing::{call, hand, records};
 
 // The header of a block: kind and erase count.
@@ -52,7 +53,7 @@ pub extern "C" fn stumpchoir_block_header_write(
     };
     let f = call::fuse_of(fused, units);
     let a = h.write(g, image, f, block);
-    call::hand_back(a, units)
+    call::hand_back(a.map_err(Told::from), units)
 }
 
 // Whether all bytes behind the header are FF: 1 or 0.
@@ -84,7 +85,7 @@ pub extern "C" fn stumpchoir_format_block(
     let g = call::geometry(geometry);
     let f = call::fuse_of(fused, units);
     let a = format::format_block(g, image, f, block);
-    call::hand_back(a, units)
+    call::hand_back(a.map_err(Told::from), units)
 }
 
 // Formats every block, from 0 up.
@@ -100,7 +101,7 @@ pub extern "C" fn stumpchoir_format_storage(
     let g = call::geometry(geometry);
     let f = call::fuse_of(fused, units);
     let a = format::format_storage(g, image, f);
-    call::hand_back(a, units)
+    call::hand_back(a.map_err(Told::from), units)
 }
 
 // The record of a block, read off its bytes; 1 for an Empty one, 2 where a header in it is corrupted.
@@ -138,7 +139,7 @@ pub extern "C" fn stumpchoir_set_block_type(
     };
     let f = call::fuse_of(fused, units);
     let a = format::set_block_type(g, image, f, block, t);
-    call::hand_back(a, units)
+    call::hand_back(a.map_err(Told::from), units)
 }
 
 // What is free, and what unfinished and deleted objects take; 9 where the listing runs past the block.

@@ -7,6 +7,7 @@ ghost use Rattle.medium.specs.Operation.{run};
 ghost use Rattle.crossing.specs.Crossing.{crossed, crossing, fuse_of, geometry_in};
 
 use crossing::call;
+use crossing::call::Told;
 
 // The first pass: deletes objects that a power cut left unfinished, or is 10 where their size or mark cannot be stored.
 #[unsafe(no_mangle)]
@@ -22,7 +23,7 @@ pub extern "C" fn stumpchoir_delete_invalid_objects(
     let g = call::geometry(geometry);
     let f = call::fuse_of(fused, units);
     let a = collector::delete_invalid_objects(g, image, table, f);
-    call::hand_back(a, units)
+    call::hand_back(a.map_err(Told::from), units)
 }
 
 // The second: formats blocks without allocation whose only object that is not deleted is an unfinished one.
@@ -39,7 +40,7 @@ pub extern "C" fn stumpchoir_erase_invalid_finished_blocks(
     let g = call::geometry(geometry);
     let f = call::fuse_of(fused, units);
     let a = collector::erase_invalid_finished_blocks(g, image, table, f);
-    call::hand_back(a, units)
+    call::hand_back(a.map_err(Told::from), units)
 }
 
 // The third: formats blocks with deleted objects alone, unless they are full.
@@ -56,7 +57,7 @@ pub extern "C" fn stumpchoir_erase_full_finished_blocks(
     let g = call::geometry(geometry);
     let f = call::fuse_of(fused, units);
     let a = collector::erase_full_finished_blocks(g, image, table, f);
-    call::hand_back(a, units)
+    call::hand_back(a.map_err(Told::from), units)
 }
 
 // A collection: the three passes in order. Only the first can be 10.
@@ -73,5 +74,5 @@ pub extern "C" fn stumpchoir_run(
     let g = call::geometry(geometry);
     let f = call::fuse_of(fused, units);
     let a = collector::run(g, image, table, f);
-    call::hand_back(a, units)
+    call::hand_back(a.map_err(Told::from), units)
 }

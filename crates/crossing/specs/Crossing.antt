@@ -5,6 +5,8 @@ use Rattle.medium.specs.declared.geometry.Geometry.{Geometry}
 use Rattle.medium.specs.declared.fuse.Fuse.{Fuse}
 use Rattle.medium.specs.declared.fuse.Fuse.TheVariants.{Absent, Units}
 use Rattle.medium.specs.declared.fuse.Stopped.{Stopped}
+use Rattle.medium.specs.Refusal.{refusal_number}
+use Rattle.crossing.specs.declared.call.Told.{Told}
 use Rattle.medium.specs.Fuse.{Stored}
 use Rattle.medium.specs.Granularity.{pick}
 use Rattle.medium.specs.Geometry.{geometry_ok, admit, fit_of, geometry_of}
@@ -75,13 +77,26 @@ unfoldable pub units_after : Stored → ℕ → ℕ
 units_after r u = units_left (Rattle.medium.specs.Fuse.fuse_of r) u
 
 -- of a store that hands a value on: the fuse or the refusal, and what the value crosses as where it is done
-abbrev pub left_of : {A : Type 0} → Result (A × Fuse) Stopped → Stored
+abbrev pub left_of : {A E : Type 0} → Result (A × Fuse) E → Result Fuse E
 left_of (Ok x) = Ok x.1
 left_of (Err s) = Err s
 
-abbrev pub value_of : {A B : Type 0} → (A → B) → B → Result (A × Fuse) Stopped → B
+abbrev pub value_of : {A B E : Type 0} → (A → B) → B → Result (A × Fuse) E → B
 value_of k b (Ok x) = k x.0
 value_of k b (Err s) = b
+
+-- a refusal of a store as C is told it
+abbrev pub told_of : Stopped → Told
+told_of s = record { number = refusal_number s.refusal; fuse = s.fuse }
+
+-- the number of such an answer, which may be any, and the fuse that it leaves
+abbrev pub told_number : Result Fuse Told → ℕ
+told_number (Ok f) = 0
+told_number (Err t) = t.number
+
+abbrev pub told_fuse : Result Fuse Told → Fuse
+told_fuse (Ok f) = f
+told_fuse (Err t) = t.fuse
 
 unfoldable pub crossing : {S A : Type 0} → ℕ → EndIn S A → Crossing S
 crossing u e = crossed (number_of e.answer) (units_left e.fuse u) e.state

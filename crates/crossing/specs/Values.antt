@@ -1,6 +1,6 @@
 -- The values that cross as numbers. "Impossible" numbers give 4: a type and a state that are no composite state, a state above 3, "a cursor
 -- above 65,536".
-use Rattle.std.specs.Prelude.{ℕ, List, [], ◌∷◌, ◌++◌, get_or, eqb}
+use Rattle.std.specs.Prelude.{ℕ, List, [], ◌∷◌, ◌++◌, get_or, eqb, Option, Some, None, Result, Ok, Err}
 use Rattle.medium.specs.Granularity.{pick}
 use Rattle.medium.specs.Operation.{Answer, done, refused, and_then, or_refuse}
 use Rattle.objects.specs.declared.types.ObjectType.{ObjectType}
@@ -14,6 +14,8 @@ use Rattle.objects.specs.declared.header.ObjectHeader.{ObjectHeader}
 use Rattle.objects.specs.declared.reader.ObjectReader.{ObjectReader}
 use Rattle.objects.specs.declared.metadata.MetadataObjectHeader.{MetadataObjectHeader}
 use Rattle.objects.specs.declared.iterator.ObjectIterator.{ObjectIterator}
+use Rattle.objects.specs.declared.iterator.Next.{Next}
+use Rattle.objects.specs.declared.iterator.Next.TheVariants as next
 use Rattle.objects.specs.Types.{TypeSaid, typed, untyped, type_of, rank_of, type_number}
 use Rattle.objects.specs.Reader.{possible}
 use Rattle.objects.specs.Info.{Info, found, none}
@@ -78,11 +80,24 @@ target_of ns n = and_then (header_of ns) (λ h. and_then (object_state_of n) (λ
 
 -- ---- whether an object is there: 1 and its header, or 0
 
+-- an answer whose refusal is a number, which may be any
+abbrev pub info_said : Result (Option ObjectHeader) ℕ → Answer Info
+info_said (Ok (Some h)) = done (found h)
+info_said (Ok None) = done none
+info_said (Err n) = refused n
+
 abbrev pub info_out : Info → Two ℕ (List ℕ) → Two ℕ (List ℕ)
 info_out (found h) old = two 1 (header_numbers h)
 info_out none old = two 0 old.second
 
 -- ---- what stands at an iterator: 1 with the header and the iterator behind it, 0 where the place is free, 2 at the end
+
+-- an answer whose refusal is a number, which may be any
+abbrev pub next_said : Result Next ℕ → Answer Met
+next_said (Ok (next.Object h i)) = done (object h i)
+next_said (Ok next.Free) = done free_place
+next_said (Ok next.End) = done block_end
+next_said (Err n) = refused n
 
 abbrev pub next_out : Met → Two (List ℕ) (Two ℕ (List ℕ)) → Two (List ℕ) (Two ℕ (List ℕ))
 next_out (object h i) old = two (iterator_numbers i) (two 1 (header_numbers h))

@@ -1,15 +1,12 @@
 // What crosses in every call: a geometry and a fuse come in, 01's number and the units that are left go out.
 ghost use Rattle.std.specs.Prelude.{◌≡◌};
 ghost use Rattle.medium.specs.Geometry.{admit};
-ghost use Rattle.medium.specs.Fuse.{stored_number};
-ghost use Rattle.medium.specs.Refusal.{refusal_number, answer_of};
-ghost use Rattle.crossing.specs.Crossing.{geometry_in, admit_alone, fuse_of, units_left, units_after, told, telling, plain};
+ghost use Rattle.crossing.specs.Crossing.{geometry_in, admit_alone, fuse_of, units_left, told_of, told_number, told_fuse};
 
-use medium::fuse::{Fuse, Stored};
+use medium::fuse::{Fuse, Stopped};
 use medium::geometry;
 use medium::geometry::Geometry;
 use medium::granularity::Granularity;
-use medium::refusal::Refusal;
 
 // The geometry that six numbers say. Where they say none it is one with no bytes, which every call refuses with 6.
 #[tactic(auto, unfolding(crate::specs::Crossing::geometry_in), using(crate::proofs::Crossings::or_none_of))]
@@ -60,20 +57,37 @@ pub fn fuse_of(fused: bool, units: &u32) -> Fuse
     }
 }
 
+// A refusal of a store as C is told it: its number, which may be any, and the fuse that is left.
+#[derive(Clone, Copy, Debug, PartialEq, Eq)]
+pub struct Told {
+    pub number: u8,
+    pub fuse: Fuse,
+}
+
+impl From<Stopped> for Told {
+    ghost from_gives = { λ stopped told. told ≡ told_of stopped };
+
+    fn from(stopped: Stopped) -> Told {
+        Told {
+            number: stopped.refusal.number(),
+            fuse: stopped.fuse,
+        }
+    }
+}
+
 // The number of a store's answer, and the units that it left.
-#[tactic(auto, unfolding(crate::specs::Crossing::units_after))]
-pub fn hand_back(answer: Stored, units: &mut u32) -> u8
-    ensures value { result ≡ stored_number answer }
-    ensures units_after { units.new ≡ units_after answer units.old }
+pub fn hand_back(answer: Result<Fuse, Told>, units: &mut u32) -> u8
+    ensures value { result ≡ told_number answer }
+    ensures units_after { units.new ≡ units_left (told_fuse answer) units.old }
 {
     match answer {
         Ok(fuse) => {
             leave(fuse, units);
             0
         }
-        Err(stopped) => {
-            leave(stopped.fuse, units);
-            stopped.refusal.number()
+        Err(told) => {
+            leave(told.fuse, units);
+            told.number
         }
     }
 }

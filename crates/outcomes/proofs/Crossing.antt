@@ -8,6 +8,7 @@ use Rattle.crossing.specs.declared.hand.Crosses as crosses
 use Rattle.outcomes.proofs.One.{One}
 use Rattle.medium.proofs.Refusals.{answer_one}
 use Rattle.crossing.specs.Crossing.{Telling}
+use Rattle.crossing.proofs.call.ToldFromStopped.from.Reads as call-ToldFromStopped-from
 use Rattle.crossing.proofs.call.geometry.Reads as call-geometry
 use Rattle.crossing.proofs.call.refusal.Reads as call-refusal
 use Rattle.crossing.proofs.call.refusal_alone.Reads as call-refusal_alone
@@ -34,6 +35,9 @@ use Rattle.crossing.proofs.values.target_of.Reads as values-target_of
 use Rattle.crossing.proofs.values.iterator_of.Reads as values-iterator_of
 use Rattle.crossing.proofs.values.reader_of.Reads as values-reader_of
 use Rattle.crossing.proofs.values.metadata_of.Reads as values-metadata_of
+
+pub call_ToldFromStopped_from_one : One call-ToldFromStopped-from.Post (λ _ r e r' e'. r ≡ r')
+call_ToldFromStopped_from_one _ _ r r' e e' p q = p ∙ sym q
 
 pub call_geometry_one : One call-geometry.Post (λ _ r e r' e'. r ≡ r')
 call_geometry_one _ _ r r' e e' p q = p ∙ sym q

@@ -1,4 +1,7 @@
 use mathlib.Core.Path.{sym}
+use native.Mathlib.Omega.{arith}
+use Rattle.std.proofs.lemmas.Grind.{common_steps}
+use Rattle.crossing.specs.Crossing.{units_after}
 use Rattle.crossing.proofs.Crossings.{given_handed, none_stored_with}
 use Rattle.cface.proofs.header_calls.stumpchoir_set_payload_size.Goals as goal
 
@@ -6,4 +9,5 @@ pub returns-in-Err : goal.returns-in-Err
 returns-in-Err c = rw (← c.geometry-g.ensures) (none_stored_with _ _ _ _ _ _ _ _ (sym c.in-Err.ensures) (rw c.number.ensures at c.refusal.ensures))
 
 pub returns : goal.returns
-returns c = rw (← c.geometry-g.ensures) (given_handed _ _ _ _ _ _ _ _ _ _ _ _ _ _ (sym c.in-Ok.ensures) c.fuse_of-f.ensures c.set_payload_size-a.ensures c.hand_back.ensures.value c.hand_back.ensures.units_after c.hand_back.ensures.out_after)
+unfolding units_after
+returns c = rw (← c.geometry-g.ensures) (given_handed _ _ _ _ _ _ _ _ _ _ _ _ _ _ (sym c.in-Ok.ensures) c.fuse_of-f.ensures c.set_payload_size-a.ensures (grind (arith, common_steps)) (grind (arith, common_steps)) (grind (arith, common_steps)))
